@@ -2,7 +2,8 @@
 
 No answer tells it: a server that forgets at each commit answers the same. It is told by the requests for memory that the program makes (refuse.c counts
 them): each statement makes some, and each row that one shows makes one at least. So where there are MANY of each kind of record instead of FEW, a request that
-goes through any kind of them makes more than so many requests for memory more. A server that is opened anew before each request does: it remembers nothing.
+goes through any kind of them makes more than so many requests for memory more. A server that is opened anew before each request does: it remembers no
+lease. What is pending it has looked up by then.
 """
 import tempfile
 import unittest
@@ -129,6 +130,19 @@ class Lookups(unittest.TestCase):
         for (line, few, few_idle), (_, many, many_idle) in zip(self.counted(FEW, True).costs(), self.counted(MANY, True).costs(), strict=True):
             self.assertGreater(many - few, MANY - FEW, line)
             self.assertGreater(many_idle - few_idle, MANY - FEW, f'a poll that finds nothing, behind {line}')
+
+    def first_poll(self, count):
+        """So many requests for memory the first poll of a server makes that was just opened, beside so many pending jobs that don't fit."""
+        world = self.counted(0)
+        for line in MADE:
+            world.do(line)
+        for number in range(count):
+            world.do(f'create 2 pending{number}')
+        world.restart()
+        return world.cost(IDLE)
+
+    def test_what_is_pending_is_looked_up_before_the_first_poll(self):
+        self.assertLess(self.first_poll(MANY) - self.first_poll(FEW), MANY - FEW)
 
     def test_what_is_looked_up_by_a_token_or_a_name_is_remembered(self):
         world = self.counted(FEW)

@@ -2,14 +2,7 @@
 use Rattle.std.proofs.Common.{◌≡◌, ℕ, zero, suc, ◌+◌, ◌==◌, Bool, true, false, ◌||◌, ◌&&◌, List, [], ◌∷◌, length, refl, sym, ap, ◌∙◌, arith, eqb-true, slice_set}
 use Rattle.std.proofs.lemmas.Bool.{cond_both, eqb-false}
 use Rattle.std.proofs.lemmas.List.{get_or-set_other}
-use Rattle.ci_board.specs.declared.facts.Facts.{Facts}
-use Rattle.ci_board.specs.declared.facts.Row.{Row}
-use Rattle.ci_board.specs.declared.facts.FactsChange.{FactsChange}
-use Rattle.ci_board.specs.declared.facts.Status.{Status}
-use Rattle.ci_board.specs.declared.facts.Status.TheVariants as status
-use Rattle.ci_graph.specs.Lists.{is_among}
-use Rattle.ci_board.specs.Effects.{status_number}
-use Rattle.ci_board.specs.Rows.{facts_at, row_at, no_facts, replaced, is_named, is_touched, differing, same_row}
+use Rattle.ci_board.specs.Prelude.{Facts, Row, FactsChange, Status, is_among, status_number, facts_at, row_at, no_facts, replaced, is_named, is_touched, differing, same_row}
 
 or_parts : (a b : Bool) → (a || b) ≡ false → (a ≡ false) × (b ≡ false)
 or_parts false false e = (refl, refl)
@@ -20,9 +13,6 @@ and_first : (a b : Bool) → (a && b) ≡ true → a ≡ true
 and_first true b e = refl
 and_first false b e = absurd (cc)
 
-differs_at : (k : ℕ) → (k == k) ≡ false → ⊥
-differs_at k e = eqb-false k k e refl
-
 pub replaced_other : (cs : List FactsChange) (fs : List Facts) (i : ℕ) → is_named cs i ≡ false → facts_at (replaced cs fs) i ≡ facts_at fs i
 replaced_other [] fs i e = refl
 replaced_other (c ∷ cs) fs i e =
@@ -30,24 +20,24 @@ replaced_other (c ∷ cs) fs i e =
     replaced_other cs (slice_set fs c.position c.facts) i b.1 ∙ get_or-set_other fs c.position i c.facts no_facts (λ q. eqb-false c.position i b.0 (sym q))
 
 abbrev of_number : ℕ → Status
-of_number zero = status.Created
-of_number (suc zero) = status.Pending
-of_number (suc (suc zero)) = status.Running
-of_number (suc (suc (suc zero))) = status.Success
-of_number (suc (suc (suc (suc zero)))) = status.Failed
-of_number (suc (suc (suc (suc (suc zero))))) = status.Canceled
-of_number (suc (suc (suc (suc (suc (suc zero)))))) = status.Skipped
-of_number (suc (suc (suc (suc (suc (suc (suc n))))))) = status.Manual
+of_number zero = Status.Created
+of_number (suc zero) = Status.Pending
+of_number (suc (suc zero)) = Status.Running
+of_number (suc (suc (suc zero))) = Status.Success
+of_number (suc (suc (suc (suc zero)))) = Status.Failed
+of_number (suc (suc (suc (suc (suc zero))))) = Status.Canceled
+of_number (suc (suc (suc (suc (suc (suc zero)))))) = Status.Skipped
+of_number (suc (suc (suc (suc (suc (suc (suc n))))))) = Status.Manual
 
 of_its_number : (s : Status) → of_number (status_number s) ≡ s
-of_its_number status.Created = refl
-of_its_number status.Pending = refl
-of_its_number status.Running = refl
-of_its_number status.Success = refl
-of_its_number status.Failed = refl
-of_its_number status.Canceled = refl
-of_its_number status.Skipped = refl
-of_its_number status.Manual = refl
+of_its_number Status.Created = refl
+of_its_number Status.Pending = refl
+of_its_number Status.Running = refl
+of_its_number Status.Success = refl
+of_its_number Status.Failed = refl
+of_its_number Status.Canceled = refl
+of_its_number Status.Skipped = refl
+of_its_number Status.Manual = refl
 
 pub same_status : (a b : Row) → same_row a b ≡ true → b.status ≡ a.status
 same_status a b e =

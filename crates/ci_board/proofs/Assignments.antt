@@ -4,26 +4,12 @@ use Rattle.std.specs.List.{list_any}
 use Rattle.std.proofs.lemmas.Bool.{ne_eqb}
 use Rattle.std.proofs.lemmas.List.{length-map, get_or-map}
 use Rattle.std.proofs.lemmas.List.Sums.{sum_by-cons}
-use Rattle.ci_graph.specs.Lists.{number_at, tally, times}
-use Rattle.ci_graph.specs.JobGraph.{JobGraph, IsJobGraph, part_at, predecessors_of}
-use Rattle.ci_graph.specs.declared.part.Part.{Part}
-use Rattle.ci_values.specs.declared.when.When.{When}
-use Rattle.ci_values.specs.declared.when.When.TheVariants as «when»
+use Rattle.ci_board.specs.Prelude.{number_at, tally, times, JobGraph, IsJobGraph, part_at, predecessors_of, Part, When, Status, Effect, Facts, Row, effect, is_open, is_fail}
+use Rattle.ci_board.specs.Prelude.{is_bar, is_met, idle_status, status_by, status_of_effects, waits_for_play, is_met_by_counts, idle_by_counts, status_of_row, standing, AreRows}
+use Rattle.ci_board.specs.Prelude.{AreNumbered, facts_at, row_at, statuses, no_row, effects_of, IsAssignment, IsStatusOf, HaveAssignment, pipeline_status, first_row, PassState}
+use Rattle.ci_board.specs.Prelude.{passed}
 use Rattle.ci_graph.proofs.Counts.{times_here, times_more, times_at}
-use Rattle.ci_board.specs.declared.facts.Status.{Status}
-use Rattle.ci_board.specs.declared.facts.Status.TheVariants as status
-use Rattle.ci_board.specs.declared.facts.Effect.{Effect}
-use Rattle.ci_board.specs.declared.facts.Facts.{Facts}
-use Rattle.ci_board.specs.declared.facts.Row.{Row}
-use Rattle.ci_board.specs.Effects.{effect, is_open, is_fail, is_bar, is_met, idle_status, status_by, status_of_effects, waits_for_play}
-use Rattle.ci_board.specs.Pass.{is_met_by_counts, idle_by_counts, status_of_row}
-use Rattle.ci_board.specs.Standing.{standing}
-use Rattle.ci_board.specs.Rows.{AreRows, AreNumbered, facts_at, row_at, statuses, no_row}
 use Rattle.ci_board.proofs.Counted.{AreCounted, effect_at, AreCountedRows}
-use Rattle.ci_board.specs.Statuses.{effects_of, IsAssignment, IsStatusOf, HaveAssignment}
-use Rattle.ci_board.specs.PipelineStatus.{pipeline_status}
-use Rattle.ci_board.specs.Pass.{first_row}
-use Rattle.ci_board.specs.Pass.{PassState, passed}
 use Rattle.ci_board.proofs.Orders.{ComeInOrder, HasCome, in_order, all_come}
 use Rattle.ci_board.proofs.Whole.{final_rows, final_facts}
 use Rattle.ci_board.proofs.Unique.{tally_members, one_counted}
@@ -61,20 +47,20 @@ none_of es =
     ∙ ap (λ (t : Bool). not (list_any is_fail es) && not t) (sym (any_is is_bar es)))
 
 met_is : (w : When) (es : List Effect) → is_met_by_counts w (count_by is_fail es) (count_by is_bar es) ≡ is_met w es
-met_is «when».OnSuccess es = none_of es
-met_is «when».Manual es = none_of es
-met_is «when».OnFailure es = sym (any_is is_fail es)
-met_is «when».Always es = refl
+met_is When.OnSuccess es = none_of es
+met_is When.Manual es = none_of es
+met_is When.OnFailure es = sym (any_is is_fail es)
+met_is When.Always es = refl
 
 idle_step : (o a c d : Bool) (x : Status) → a ≡ not o → c ≡ d
-    → cond o (cond c x status.Skipped) status.Created ≡ cond a status.Created (cond d x status.Skipped)
-idle_step true a c d x e f = ap (λ (t : Bool). cond t x status.Skipped) f ∙ ap (λ (t : Bool). cond t status.Created (cond d x status.Skipped)) (sym e)
-idle_step false a c d x e f = ap (λ (t : Bool). cond t status.Created (cond d x status.Skipped)) (sym e)
+    → cond o (cond c x Status.Skipped) Status.Created ≡ cond a Status.Created (cond d x Status.Skipped)
+idle_step true a c d x e f = ap (λ (t : Bool). cond t x Status.Skipped) f ∙ ap (λ (t : Bool). cond t Status.Created (cond d x Status.Skipped)) (sym e)
+idle_step false a c d x e f = ap (λ (t : Bool). cond t Status.Created (cond d x Status.Skipped)) (sym e)
 
 idle_is : (part : Part) (facts : Facts) (es : List Effect) → idle_by_counts part facts (count_by is_open es) (count_by is_fail es) (count_by is_bar es) ≡ idle_status part facts es
 idle_is part facts es =
     idle_step (count_by is_open es == 0) (list_any is_open es) (is_met_by_counts part.«when» (count_by is_fail es) (count_by is_bar es)) (is_met part.«when» es)
-    (cond (waits_for_play part.«when» facts) status.Manual status.Pending) (any_is is_open es) (met_is part.«when» es)
+    (cond (waits_for_play part.«when» facts) Status.Manual Status.Pending) (any_is is_open es) (met_is part.«when» es)
 
 -- the numbers that are counted are those of the statuses
 pub numbered_of : (g : JobGraph) (facts : List Facts) (rows : List Row) → AreCounted g facts rows → AreNumbered g facts rows
@@ -167,7 +153,7 @@ pub one_assignment : (g : JobGraph) → IsJobGraph g → (facts : List Facts) (a
 one_assignment g net facts a b p q i l = along_order g facts a b p q g.order (λ _. ⊥) (in_order g net) (λ m d. absurd d) i (all_come g net i l)
 
 -- rows of created jobs
-created_at : (lists : List (List ℕ)) (p : ℕ) → (row_at (map first_row lists) p).status ≡ status.Created
+created_at : (lists : List (List ℕ)) (p : ℕ) → (row_at (map first_row lists) p).status ≡ Status.Created
 created_at [] p = refl
 created_at (x ∷ xs) zero = refl
 created_at (x ∷ xs) (suc p) = created_at xs p
@@ -184,7 +170,7 @@ first_counted : (g : JobGraph) → IsJobGraph g → (facts : List Facts) → Are
 first_counted g net facts i l =
     let long : length g.predecessors ≡ length g.parts = net.predecessors_long in
     let row : row_at (map first_row g.predecessors) i ≡ first_row (predecessors_of g i) = get_or-map first_row g.predecessors i [] no_row (omega arith) in
-    let at : (f : Effect → Bool) (x : ℕ) → f (effect_at g facts (map first_row g.predecessors) (part_at g i).gives_needs x) ≡ f (effect (part_at g x) (facts_at facts x) (part_at g i).gives_needs status.Created)
+    let at : (f : Effect → Bool) (x : ℕ) → f (effect_at g facts (map first_row g.predecessors) (part_at g i).gives_needs x) ≡ f (effect (part_at g x) (facts_at facts x) (part_at g i).gives_needs Status.Created)
     = λ (f : Effect → Bool) (x : ℕ). ap (λ (s : Status). f (effect (part_at g x) (facts_at facts x) (part_at g i).gives_needs s)) (created_at g.predecessors x) in
     record {
       opens = ap (λ (r : Row). r.opens) row ∙ sym (tally_yes _ (predecessors_of g i) (λ x. at is_open x));

@@ -1,16 +1,9 @@
 -- What correcting the successors gives.
 use Rattle.std.proofs.Common.{◌≡◌, ℕ, suc, ◌+◌, ◌<◌, ◌≤◌, ◌==◌, ◌^◌, Bool, true, false, List, [], ◌∷◌, length, get_or, refl, sym, ap, ◌∙◌, arith, eqb-true, slice_set, nat_lt}
-use Rattle.std.proofs.Math.ListN.{set, length-set}
+use Rattle.std.proofs.Math.ListN.{length-set}
 use Rattle.std.proofs.lemmas.Bool.{cond_both, eqb-false}
 use Rattle.std.proofs.lemmas.List.{get_or-set_same, get_or-set_other}
-use Rattle.ci_board.specs.declared.facts.Effect.{Effect}
-use Rattle.ci_board.specs.declared.pass.Effects.{Effects}
-use Rattle.ci_graph.specs.declared.part.Part.{Part}
-use Rattle.ci_board.specs.declared.facts.Row.{Row}
-use Rattle.ci_graph.specs.Lists.{times}
-use Rattle.ci_graph.specs.JobGraph.{part_of}
-use Rattle.ci_board.specs.Rows.{row_at, no_row}
-use Rattle.ci_board.specs.Pass.{moved, moved_row, side, corrected}
+use Rattle.ci_board.specs.Prelude.{Effect, Effects, Part, Row, times, part_of, row_at, no_row, moved, moved_row, side, corrected}
 use Rattle.ci_board.proofs.Tallies.{part_for}
 
 base : (a b : Bool) (x y : ℕ) → x + part_for a 0 ≡ y + part_for b 0 → x ≡ y
@@ -32,9 +25,6 @@ here false true x t m l h =
 pub corrected_long : (parts : List Part) (was is : Effects) (ss : List ℕ) (rows : List Row) → length (corrected parts was is ss rows) ≡ length rows
 corrected_long parts was is [] rows = refl
 corrected_long parts was is (s ∷ ss) rows = corrected_long parts was is ss _ ∙ length-set rows s _
-
-step_row : Effects → Effects → List Part → ℕ → List Row → Row
-step_row was is parts s rows = moved_row (side was (part_of parts s).gives_needs) (side is (part_of parts s).gives_needs) (row_at rows s)
 
 pub corrected_status : (parts : List Part) (was is : Effects) (ss : List ℕ) → (n : ℕ) → ((k : ℕ) → k < length ss → get_or ss k 0 < n) → (rows : List Row) → length rows ≡ n → (i : ℕ)
     → (row_at (corrected parts was is ss rows) i).status ≡ (row_at rows i).status

@@ -1,13 +1,6 @@
 -- Rows as the code keeps them: their numbers are tallies over the predecessors, and each status is that of its row's numbers.
 use Rattle.std.proofs.Common.{◌≡◌, ℕ, ◌<◌, Bool, List, length}
-use Rattle.ci_graph.specs.Lists.{tally}
-use Rattle.ci_graph.specs.JobGraph.{JobGraph, part_at, predecessors_of}
-use Rattle.ci_board.specs.declared.facts.Effect.{Effect}
-use Rattle.ci_board.specs.declared.facts.Facts.{Facts}
-use Rattle.ci_board.specs.declared.facts.Row.{Row}
-use Rattle.ci_board.specs.Effects.{effect, is_open, is_fail, is_bar}
-use Rattle.ci_board.specs.Statuses.{facts_at, row_at}
-use Rattle.ci_board.specs.Pass.{status_of_row}
+use Rattle.ci_board.specs.Prelude.{tally, JobGraph, part_at, predecessors_of, Effect, Facts, Row, effect, is_open, is_fail, is_bar, facts_at, row_at, status_of_row}
 
 -- the effect of p on a job, which gives needs or not, as facts and rows stand
 abbrev pub effect_at : JobGraph → List Facts → List Row → Bool → ℕ → Effect

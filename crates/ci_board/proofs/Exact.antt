@@ -1,11 +1,8 @@
 -- The answer is exact.
 use Rattle.std.proofs.Common.{◌≡◌, ◌↔◌, ℕ, zero, suc, ◌+◌, ◌<◌, ◌≤◌, ◌==◌, Bool, true, false, not, ◌&&◌, List, [], ◌∷◌, length, refl, sym, ap, ◌∙◌, arith, eqb-true, ⊎_elim}
 use Rattle.std.proofs.lemmas.Bool.{cond_both, eqb-false, eq-eqb, and_parts, and_from}
-use Rattle.ci_graph.specs.Lists.{times, number_at, once}
+use Rattle.ci_board.specs.Prelude.{times, number_at, once, Row, status_number, is_status, row_at, same_row, differing, IsAnswer}
 use Rattle.ci_graph.proofs.Counts.{times_same, times_cases, at_times}
-use Rattle.ci_board.specs.declared.facts.Row.{Row}
-use Rattle.ci_board.specs.Effects.{status_number, is_status}
-use Rattle.ci_board.specs.Rows.{row_at, same_row, differing, IsAnswer}
 use Rattle.ci_board.proofs.Answered.{same_status}
 
 row_same : (a b : Row) → same_row a b ≡ true → a ≡ b

@@ -2,17 +2,9 @@
 use Rattle.std.proofs.Common.{◌≡◌, ◌⊎◌, ℕ, ◌+◌, ◌<◌, ◌≤◌, Bool, true, false, List, [], ◌∷◌, length, refl, sym, ap, ◌∙◌, arith, inl, inr}
 use Rattle.std.proofs.lemmas.Bool.{cond_both}
 use Rattle.std.proofs.lemmas.List.{get_or-set_same, get_or-set_other}
-use Rattle.ci_board.specs.declared.pass.Effects.{Effects}
-use Rattle.ci_board.specs.declared.facts.Facts.{Facts}
-use Rattle.ci_board.specs.declared.facts.Row.{Row}
-use Rattle.ci_board.specs.declared.facts.Status.{Status}
-use Rattle.ci_board.specs.Effects.{effect}
-use Rattle.ci_board.specs.declared.facts.Effect.{Effect}
-use Rattle.ci_board.specs.declared.facts.Effect.TheVariants.{Good, Fails, Bars, Open}
-use Rattle.ci_graph.specs.JobGraph.{JobGraph, IsJobGraph, part_at, successors_of}
-use Rattle.ci_board.specs.Rows.{facts_at, row_at, no_row, no_facts, degrees}
+use Rattle.ci_board.specs.Prelude.{Effects, Facts, Row, Status, effect, Effect, Good, Fails, Bars, Open, JobGraph, IsJobGraph, part_at, successors_of, facts_at, row_at, no_row}
+use Rattle.ci_board.specs.Prelude.{no_facts, degrees, PassState, corrected, both, differs, same_effect, was, is, put, stepped, passed, next_status}
 use Rattle.ci_board.proofs.Orders.{ComeInOrder, in_order}
-use Rattle.ci_board.specs.Pass.{PassState, corrected, both, differs, same_effect, was, is, put, stepped, passed, next_status}
 use Rattle.ci_board.proofs.Steps.{stepped_rows_long, stepped_facts}
 use Rattle.ci_board.proofs.Whole.{step_status}
 

@@ -1,8 +1,7 @@
 -- The order, as the pass goes along it.
 use Rattle.std.proofs.Common.{◌≡◌, ◌⊎◌, ℕ, ◌+◌, ◌<◌, ◌≤◌, ◌==◌, List, [], ◌∷◌, ◌++◌, length, take, refl, sym, ap, ◌∙◌, arith, ⊎_elim, inl, inr, append_assoc, length-append}
 use Rattle.std.proofs.lemmas.List.{take_at, get_or_at}
-use Rattle.ci_graph.specs.Lists.{number_at, times}
-use Rattle.ci_graph.specs.JobGraph.{JobGraph, IsJobGraph, predecessors_of}
+use Rattle.ci_board.specs.Prelude.{number_at, times, JobGraph, IsJobGraph, predecessors_of}
 use Rattle.ci_graph.proofs.Counts.{times_here, times_more, times_cases, tally-append}
 
 -- each position comes after its predecessors, where those of done have come; no position comes twice

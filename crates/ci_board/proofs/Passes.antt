@@ -1,8 +1,6 @@
 -- Steps of the pass.
 use Rattle.std.proofs.Common.{◌≡◌, ℕ, ◌+◌, ◌<◌, List, ◌∷◌, length, drop, sym, ap, ◌∙◌, add-one, drop-cons, slice_index}
-use Rattle.ci_board.specs.declared.facts.Facts.{Facts}
-use Rattle.ci_graph.specs.JobGraph.{JobGraph}
-use Rattle.ci_board.specs.Pass.{PassState, stepped, passed}
+use Rattle.ci_board.specs.Prelude.{Facts, JobGraph, PassState, stepped, passed}
 
 pub stepped_same : (g0 g1 : JobGraph) (fresh : List Facts) (j : ℕ) (h : PassState) → g1 ≡ record g0 { meter = g1.meter } → stepped g1 fresh j h ≡ stepped g0 fresh j h
 stepped_same g0 g1 fresh j h e = ap (λ (x : JobGraph). stepped x fresh j h) e

@@ -2,27 +2,17 @@
 use Rattle.std.proofs.Common.{◌≡◌, ℕ, ◌<◌, ◌==◌, Bool, true, List, length, slice_set, sym, ap, subst, ◌∙◌, eqb-true, Some}
 use Rattle.std.proofs.lemmas.Bool.{cond_both, eqb-false, cond-true}
 use Rattle.std.proofs.lemmas.List.{get_or-set_same, get_or-set_other}
-use Rattle.ci_graph.specs.Lists.{tally}
-use Rattle.ci_graph.specs.JobGraph.{JobGraph, part_at, predecessors_of}
-use Rattle.ci_board.specs.declared.facts.Effect.{Effect}
-use Rattle.ci_board.specs.declared.facts.Facts.{Facts}
-use Rattle.ci_board.specs.declared.facts.Row.{Row}
-use Rattle.ci_board.specs.declared.facts.Status.{Status}
-use Rattle.ci_board.specs.declared.facts.Status.TheVariants as status
-use Rattle.ci_board.specs.Standing.{is_live}
-use Rattle.ci_board.specs.Effects.{effect, is_open, is_fail, is_bar, status_by}
-use Rattle.ci_board.specs.Pass.{status_of_row, idle_by_counts}
-use Rattle.ci_board.specs.Rows.{facts_at, row_at, no_facts, no_row}
+use Rattle.ci_board.specs.Prelude.{tally, JobGraph, part_at, predecessors_of, Effect, Facts, Row, Status, is_live, effect, is_open, is_fail, is_bar, status_by, status_of_row}
+use Rattle.ci_board.specs.Prelude.{idle_by_counts, facts_at, row_at, no_facts, no_row, AreRows}
 use Rattle.ci_board.proofs.Counted.{effect_at, AreCountedRows}
-use Rattle.ci_board.specs.Rows.{AreRows}
 use Rattle.ci_board.proofs.Assignments.{assignment_of, counted_of}
 use Rattle.ci_board.proofs.Unique.{tally_members}
 
 abbrev running : Row → Row
-running r = record r { status = status.Running }
+running r = record r { status = Status.Running }
 
 module _ (g : JobGraph) (facts : List Facts) (rows : List Row) (j : ℕ) (fresh : Facts) (facts_long : j < length facts) (rows_long : j < length rows)
-    (pending : (row_at rows j).status ≡ status.Pending) (live : is_live fresh.last ≡ true) (are : AreCountedRows g facts rows) where
+    (pending : (row_at rows j).status ≡ Status.Pending) (live : is_live fresh.last ≡ true) (are : AreCountedRows g facts rows) where
   abbrev now_facts : List Facts
   now_facts = slice_set facts j fresh
 
@@ -57,11 +47,11 @@ module _ (g : JobGraph) (facts : List Facts) (rows : List Row) (j : ℕ) (fresh 
   counts : (f : Effect → Bool) (i : ℕ) → tally (λ p. f (effect_at g facts rows (part_at g i).gives_needs p)) (predecessors_of g i) ≡ tally (λ p. f (effect_at g now_facts now_rows (part_at g i).gives_needs p)) (predecessors_of g i)
   counts f i = tally_members _ _ (predecessors_of g i) (λ p _. ap f (sym (effects (part_at g i).gives_needs p)))
 
-  settled_there : status.Running ≡ status_of_row (part_at g j) (facts_at now_facts j) (row_at now_rows j)
+  settled_there : Status.Running ≡ status_of_row (part_at g j) (facts_at now_facts j) (row_at now_rows j)
   settled_there =
       sym (ap (λ (f : Facts). status_of_row (part_at g j) f (row_at now_rows j)) (get_or-set_same facts j fresh no_facts facts_long)
       ∙ ap (λ o. status_by o (idle_by_counts (part_at g j) fresh (row_at now_rows j).opens (row_at now_rows j).failed (row_at now_rows j).barred))
-      (cond-true (is_live fresh.last) (Some status.Running) _ live))
+      (cond-true (is_live fresh.last) (Some Status.Running) _ live))
 
   started_counted : AreCountedRows g now_facts now_rows
   started_counted = record {
@@ -78,7 +68,7 @@ module _ (g : JobGraph) (facts : List Facts) (rows : List Row) (j : ℕ) (fresh 
         ∙ sym (ap (λ (w : Row). status_of_row (part_at g i) (facts_at now_facts i) w) r ∙ ap (λ (w : Facts). status_of_row (part_at g i) w (row_at rows i)) f)));
   }
 
-pub started_rows : (g : JobGraph) (facts : List Facts) (rows : List Row) (j : ℕ) (fresh : Facts) → j < length facts → j < length rows → (row_at rows j).status ≡ status.Pending → is_live fresh.last ≡ true
+pub started_rows : (g : JobGraph) (facts : List Facts) (rows : List Row) (j : ℕ) (fresh : Facts) → j < length facts → j < length rows → (row_at rows j).status ≡ Status.Pending → is_live fresh.last ≡ true
     → AreRows g facts rows → AreRows g (slice_set facts j fresh) (slice_set rows j (running (row_at rows j)))
 started_rows g facts rows j fresh fl rl pending live are =
     assignment_of g _ _ (started_counted g facts rows j fresh fl rl pending live (counted_of g facts rows are))

@@ -1,19 +1,11 @@
 -- What one step of the pass keeps.
 use Rattle.std.proofs.Common.{◌≡◌, ℕ, suc, ◌+◌, ◌<◌, ◌≤◌, ◌==◌, ◌^◌, Bool, true, false, cond, not, ◌&&◌, List, [], ◌∷◌, length, get_or, refl, sym, ap, ◌∙◌, arith, eqb-true, slice_set}
-use Rattle.std.proofs.Math.ListN.{set, length-set}
+use Rattle.std.proofs.Math.ListN.{length-set}
 use Rattle.std.proofs.lemmas.Bool.{cond_both, eqb-false}
 use Rattle.std.proofs.lemmas.List.{get_or-set_same, get_or-set_other}
-use Rattle.ci_board.specs.declared.facts.Effect.{Effect}
-use Rattle.ci_board.specs.declared.pass.Effects.{Effects}
-use Rattle.ci_board.specs.declared.facts.Facts.{Facts}
-use Rattle.ci_board.specs.declared.facts.Row.{Row}
-use Rattle.ci_board.specs.declared.facts.Status.{Status}
-use Rattle.ci_board.specs.Effects.{effect}
-use Rattle.ci_graph.specs.Lists.{tally, times}
-use Rattle.ci_graph.specs.JobGraph.{JobGraph, IsJobGraph, part_at, predecessors_of, successors_of}
-use Rattle.ci_board.specs.Rows.{facts_at, row_at, no_row, no_facts}
+use Rattle.ci_board.specs.Prelude.{Effect, Effects, Facts, Row, Status, effect, tally, times, JobGraph, IsJobGraph, part_at, predecessors_of, successors_of, facts_at, row_at}
+use Rattle.ci_board.specs.Prelude.{no_row, no_facts, PassState, moved, moved_row, side, corrected, both, differs, same_effect, was, is, put, stepped, next_status}
 use Rattle.ci_board.proofs.Counted.{effect_at}
-use Rattle.ci_board.specs.Pass.{PassState, moved, moved_row, side, corrected, both, differs, same_effect, was, is, put, stepped, next_status}
 use Rattle.ci_board.proofs.Tallies.{part_for, tally-le, tally_moved}
 use Rattle.ci_board.proofs.Corrects.{corrected_long, corrected_status, corrected_number}
 

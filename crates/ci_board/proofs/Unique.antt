@@ -1,14 +1,8 @@
 -- The rows of the same facts are the same.
 use Rattle.std.proofs.Common.{◌≡◌, ◌⊎◌, ℕ, suc, ◌<◌, ◌==◌, Bool, cond, List, [], ◌∷◌, length, refl, sym, ap, ◌∙◌, arith, ⊎_elim}
 use Rattle.std.proofs.lemmas.Bool.{cond_both, eqb-false}
-use Rattle.ci_board.specs.declared.facts.Effect.{Effect}
-use Rattle.ci_board.specs.declared.facts.Facts.{Facts}
-use Rattle.ci_board.specs.declared.facts.Row.{Row}
-use Rattle.ci_board.specs.Effects.{effect, is_open, is_fail, is_bar}
-use Rattle.ci_board.specs.Pass.{status_of_row}
-use Rattle.ci_graph.specs.Lists.{tally, times}
-use Rattle.ci_graph.specs.JobGraph.{JobGraph, IsJobGraph, part_at, predecessors_of}
-use Rattle.ci_board.specs.Rows.{facts_at, row_at}
+use Rattle.ci_board.specs.Prelude.{Effect, Facts, Row, effect, is_open, is_fail, is_bar, status_of_row, tally, times, JobGraph, IsJobGraph, part_at, predecessors_of, facts_at}
+use Rattle.ci_board.specs.Prelude.{row_at}
 use Rattle.ci_board.proofs.Counted.{effect_at, AreCountedRows}
 use Rattle.ci_board.proofs.Orders.{ComeInOrder, HasCome, in_order, all_come}
 

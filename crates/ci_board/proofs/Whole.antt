@@ -1,19 +1,12 @@
 -- What the whole pass gives.
 use Rattle.std.proofs.Common.{◌≡◌, ◌⊎◌, ℕ, zero, suc, ◌+◌, ◌<◌, ◌==◌, Bool, true, false, List, [], ◌∷◌, length, refl, sym, ap, ◌∙◌, arith, eqb-true, slice_set, ⊎_elim, inr}
-use Rattle.std.proofs.Math.ListN.{set, length-set}
+use Rattle.std.proofs.Math.ListN.{length-set}
 use Rattle.std.proofs.lemmas.Bool.{cond_both, eqb-false, and_parts}
 use Rattle.std.proofs.lemmas.List.{get_or-set_same, get_or-set_other, ext_get_or}
-use Rattle.ci_board.specs.declared.facts.Facts.{Facts}
-use Rattle.ci_board.specs.declared.facts.Row.{Row}
-use Rattle.ci_board.specs.Effects.{is_open, is_fail, is_bar}
-use Rattle.ci_board.specs.Pass.{status_of_row}
-use Rattle.ci_board.specs.declared.facts.Effect.{Effect}
-use Rattle.ci_graph.specs.Lists.{times}
-use Rattle.ci_graph.specs.JobGraph.{JobGraph, IsJobGraph, part_at, predecessors_of, successors_of}
-use Rattle.ci_board.specs.Rows.{facts_at, row_at, no_row, no_facts}
+use Rattle.ci_board.specs.Prelude.{Facts, Row, is_open, is_fail, is_bar, status_of_row, Effect, times, JobGraph, IsJobGraph, part_at, predecessors_of, successors_of, facts_at}
+use Rattle.ci_board.specs.Prelude.{row_at, no_row, no_facts, PassState, corrected, differs, same_test, same_effect, was, is, put, stepped, passed, next_status}
 use Rattle.ci_board.proofs.Counted.{AreCounted, AreCountedRows}
 use Rattle.ci_board.proofs.Orders.{ComeInOrder, HasCome, in_order, all_come}
-use Rattle.ci_board.specs.Pass.{PassState, corrected, differs, same_test, same_effect, was, is, put, stepped, passed, next_status}
 use Rattle.ci_board.proofs.Corrects.{corrected_status, corrected_other}
 use Rattle.ci_board.proofs.Steps.{stepped_number, stepped_rows_long, stepped_facts}
 

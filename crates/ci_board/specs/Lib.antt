@@ -6,3 +6,4 @@ pub mod PipelineStatus
 pub mod Pass
 pub mod Examples
 pub mod Texts
+pub mod Prelude

@@ -2,7 +2,6 @@
 -- functions that the crate keeps to itself speak of these; that they come to the one assignment is proved.
 use Rattle.std.specs.Prelude.{ℕ, ◌+◌, ◌-◌, Bool, true, false, ◌&&◌, not, List, [], ◌∷◌, length, if◌then◌else◌, ◌==◌, nat_lt, slice_set}
 use Rattle.ci_board.specs.declared.facts.Status.{Status}
-use Rattle.ci_board.specs.declared.facts.Status.TheVariants as status
 use Rattle.ci_board.specs.declared.facts.Effect.{Effect}
 use Rattle.ci_board.specs.declared.facts.Facts.{Facts}
 use Rattle.ci_board.specs.declared.facts.Row.{Row}
@@ -11,21 +10,20 @@ use Rattle.ci_board.specs.declared.pass.Effects.{Effects}
 use Rattle.ci_board.specs.Effects.{effect, is_open, is_fail, is_bar, waits_for_play, status_by}
 use Rattle.ci_board.specs.Standing.{standing}
 use Rattle.ci_values.specs.declared.when.When.{When}
-use Rattle.ci_values.specs.declared.when.When.TheVariants as «when»
 use Rattle.ci_graph.specs.JobGraph.{JobGraph, part_at, part_of, successors_of}
 use Rattle.ci_board.specs.Rows.{facts_at, row_at}
 
 -- the status of an idle job by the numbers of its open, failed and barred predecessors, as rows keep them
 abbrev pub is_met_by_counts : When → ℕ → ℕ → Bool
-is_met_by_counts «when».OnSuccess failed barred = (failed == 0) && (barred == 0)
-is_met_by_counts «when».Manual failed barred = (failed == 0) && (barred == 0)
-is_met_by_counts «when».OnFailure failed barred = not (failed == 0)
-is_met_by_counts «when».Always failed barred = true
+is_met_by_counts When.OnSuccess failed barred = (failed == 0) && (barred == 0)
+is_met_by_counts When.Manual failed barred = (failed == 0) && (barred == 0)
+is_met_by_counts When.OnFailure failed barred = not (failed == 0)
+is_met_by_counts When.Always failed barred = true
 
 abbrev pub idle_by_counts : Part → Facts → ℕ → ℕ → ℕ → Status
 idle_by_counts part facts opens failed barred =
-    if opens == 0 then (if is_met_by_counts part.«when» failed barred then (if waits_for_play part.«when» facts then status.Manual else status.Pending) else status.Skipped)
-    else status.Created
+    if opens == 0 then (if is_met_by_counts part.«when» failed barred then (if waits_for_play part.«when» facts then Status.Manual else Status.Pending) else Status.Skipped)
+    else Status.Created
 
 abbrev pub status_of_row : Part → Facts → Row → Status
 status_of_row part facts row = status_by (standing part facts) (idle_by_counts part facts row.opens row.failed row.barred)
@@ -104,4 +102,4 @@ passed g fresh (j ∷ js) h = passed g fresh js (stepped g fresh j h)
 
 -- the row of a job whose predecessors are all open
 abbrev pub first_row : List ℕ → Row
-first_row predecessors = record { status = status.Created; opens = length predecessors; failed = 0; barred = 0 }
+first_row predecessors = record { status = Status.Created; opens = length predecessors; failed = 0; barred = 0 }

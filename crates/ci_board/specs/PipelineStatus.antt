@@ -4,10 +4,8 @@ use Rattle.ci_values.specs.declared.attempts.AttemptState.{AttemptState}
 use Rattle.ci_graph.specs.JobGraph.{part_of}
 use Rattle.ci_graph.specs.declared.part.Part.{Part}
 use Rattle.ci_board.specs.declared.facts.Status.{Status}
-use Rattle.ci_board.specs.declared.facts.Status.TheVariants as status
 use Rattle.ci_board.specs.declared.facts.Facts.{Facts}
 use Rattle.ci_board.specs.declared.pipeline.Question.{Question}
-use Rattle.ci_board.specs.declared.pipeline.Question.TheVariants as question
 use Rattle.ci_board.specs.Effects.{is_status, is_allowed}
 use Rattle.ci_board.specs.Rows.{facts_at}
 
@@ -31,18 +29,18 @@ has_attempt (Some last) = true
 -- the first case that holds
 abbrev pub pipeline_status : List Part → List Facts → (ℕ → Status) → Status
 pipeline_status parts facts a =
-    if some_job (length parts) (has_status a status.Running) then status.Running
-    else if some_job (length parts) (has_status a status.Pending)
-    then (if some_job (length parts) (λ j. has_attempt (facts_at facts j).last) then status.Running else status.Pending)
-    else if some_job (length parts) (has_strict parts facts a status.Manual) then status.Manual
-    else if some_job (length parts) (has_strict parts facts a status.Failed) then status.Failed
-    else if some_job (length parts) (has_strict parts facts a status.Canceled) then status.Canceled
-    else if some_job (length parts) (λ j. not (is_status status.Skipped (a j) || is_status status.Manual (a j))) then status.Success
-    else status.Skipped
+    if some_job (length parts) (has_status a Status.Running) then Status.Running
+    else if some_job (length parts) (has_status a Status.Pending)
+    then (if some_job (length parts) (λ j. has_attempt (facts_at facts j).last) then Status.Running else Status.Pending)
+    else if some_job (length parts) (has_strict parts facts a Status.Manual) then Status.Manual
+    else if some_job (length parts) (has_strict parts facts a Status.Failed) then Status.Failed
+    else if some_job (length parts) (has_strict parts facts a Status.Canceled) then Status.Canceled
+    else if some_job (length parts) (λ j. not (is_status Status.Skipped (a j) || is_status Status.Manual (a j))) then Status.Success
+    else Status.Skipped
 
 -- what the code asks of each job
 abbrev pub answers_yes : Question → Part → Facts → Status → Bool
-answers_yes (question.Has s) part facts t = is_status s t
-answers_yes (question.HasStrictly s) part facts t = is_status s t && not (is_allowed part facts t)
-answers_yes question.HasAttempt part facts t = has_attempt facts.last
-answers_yes question.IsDone part facts t = not (is_status status.Skipped t || is_status status.Manual t)
+answers_yes (Question.Has s) part facts t = is_status s t
+answers_yes (Question.HasStrictly s) part facts t = is_status s t && not (is_allowed part facts t)
+answers_yes Question.HasAttempt part facts t = has_attempt facts.last
+answers_yes Question.IsDone part facts t = not (is_status Status.Skipped t || is_status Status.Manual t)

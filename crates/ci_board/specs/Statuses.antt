@@ -2,7 +2,6 @@
 use Rattle.std.specs.Prelude.{◌≡◌, ℕ, ◌<◌, false, List, map, length, count_by, slice_index_or, None}
 use Rattle.ci_graph.specs.JobGraph.{JobGraph, part_at, predecessors_of}
 use Rattle.ci_board.specs.declared.facts.Status.{Status}
-use Rattle.ci_board.specs.declared.facts.Status.TheVariants as status
 use Rattle.ci_board.specs.declared.facts.Effect.{Effect}
 use Rattle.ci_board.specs.declared.facts.Facts.{Facts}
 use Rattle.ci_board.specs.declared.facts.Row.{Row}
@@ -12,7 +11,7 @@ abbrev pub no_facts : Facts
 no_facts = record { last = None; attempts = 0; cancelled = false; played = false }
 
 abbrev pub no_row : Row
-no_row = record { status = status.Created; opens = 0; failed = 0; barred = 0 }
+no_row = record { status = Status.Created; opens = 0; failed = 0; barred = 0 }
 
 abbrev pub facts_at : List Facts → ℕ → Facts
 facts_at facts j = slice_index_or facts j no_facts

@@ -7,7 +7,7 @@ use crate::journal::Journal;
 use crate::plan::plan;
 use crate::prune::prune;
 use crate::report::report;
-use crate::server::{ask, is_closed, time_since, was_migrated};
+use crate::server::{ask, is_closed, prepare, time_since, was_migrated};
 use crate::serving::serve_connections;
 use crate::sources::Sources;
 use ci_cli_words::line::{BROKEN_OFF, DONE, Line, USAGE, say, say_reply};
@@ -182,7 +182,7 @@ fn start_of_opening<C: Clock>(log: LogLevel, clock: &C) -> Option<Instant> {
     }
 }
 
-/// Serves the connections of a port of 127.0.0.1.
+/// Serves the connections of a port of 127.0.0.1. What a first poll needs is looked up before it says that it listens.
 fn listen<S: Alter, C: Clock, R: RandomSource, O: Write, E: Write>(
     rt: &HostRuntime,
     server: &mut Server<S>,
@@ -198,6 +198,7 @@ fn listen<S: Alter, C: Clock, R: RandomSource, O: Write, E: Write>(
     let Ok(paths) = Paths::new(rt.alloc()) else {
         return end(output, journal, Line::NoMemory);
     };
+    prepare(rt.alloc(), server, journal);
     let heard = say(output, Line::Listening(options.port));
     if heard != DONE || output.flush().is_err() {
         return BROKEN_OFF;

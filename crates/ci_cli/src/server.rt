@@ -25,6 +25,18 @@ pub fn ask<S: Alter>(
     server.handle(alloc, request, stamp.moment, stamp.seed)
 }
 
+/// Has a server that was just opened look up what a first poll needs. Where memory is refused the poll does; where the store fails the
+/// journal is told.
+pub fn prepare<S: Alter, E: Write>(
+    alloc: Global,
+    server: &mut Server<S>,
+    journal: &Journal<'_, E>,
+) {
+    if server.prepare(alloc).is_err() && server.closed() {
+        journal.say_failed();
+    }
+}
+
 /// Has the store of a server failed?
 pub fn is_closed<S: Alter>(server: &Server<S>) -> bool {
     server.closed()

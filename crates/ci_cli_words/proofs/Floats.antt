@@ -5,7 +5,7 @@ use Rattle.serde_json.specs.Written.{has_float}
 use Rattle.ci_machine.specs.declared.report.QueueRow.{QueueRow}
 use Rattle.ci_machine.specs.declared.report.PipelineRows.{PipelineRows}
 use Rattle.ci_machine.specs.declared.report.RunnerRow.{RunnerRow}
-use Rattle.ci_machine.specs.Listings.{listed}
+use Rattle.ci_machine.specs.Prelude.{listed}
 use Rattle.ci_cli_words.specs.JsonText.{queued_data, job_data, pipeline_data, grant_data, runner_data}
 
 -- a list of rows of which none has one has none

@@ -1,9 +1,8 @@
 -- What the getters of matches say, by the rows of the matches.
-use Rattle.std.proofs.Common.{◌≡◌, ◌∙◌, true, false, refl, sym, Option, Some, None, option_map}
-use Rattle.std.specs.Prelude.{slice_index, ◌==◌}
+use Rattle.std.proofs.Common.{◌≡◌, ◌∙◌, refl, sym, Option, Some, None, option_map}
 use Rattle.std.specs.Borrow.{Bor}
 use Rattle.clap.specs.Walk.{Text}
-use Rattle.ci_cli_words.specs.Words.{Reads, undashed}
+use Rattle.ci_cli_words.specs.Words.{Reads}
 
 some≢none : {X : Type 0} (x : X) → Some x ≡ None → ⊥
 some≢none x e = cc
@@ -13,15 +12,6 @@ read_text None o e = λ x h. some≢none x.now (sym h ∙ sym e)
 read_text (Some x) o e = sym e
 
 -- ---- a value that doesn't begin with `-`
-
-pub dashed : (o : Option Text) (t : Text) → o ≡ Some t → (slice_index t 0 == 45) ≡ true → undashed o ≡ None
-dashed o t e b = rw (e, b) refl
-
-pub not_dashed : (o : Option Text) (t : Text) → o ≡ Some t → (slice_index t 0 == 45) ≡ false → undashed o ≡ Some t
-not_dashed o t e b = rw (e, b) refl
-
-pub nothing_dashed : (o : Option Text) → o ≡ None → undashed o ≡ None
-nothing_dashed o e = rw e refl
 
 -- no reference is to the value, so there is none
 pub nothing : (o : Option Text) → ((x : Bor Text) → ¬ (o ≡ Some x.now)) → o ≡ None

@@ -1,6 +1,6 @@
 -- The command line that the program takes: its commands, and the arguments of each, as `clap` reads words by them.
 use Rattle.std.specs.Prelude.{◌≡◌, ℕ, true, false, List, [], ◌∷◌, Some, codes}
-use Rattle.ci_values.specs.declared.limits.TheConstants.{MAX_NUMBER}
+use Rattle.ci_machine.specs.Prelude.{MAX_NUMBER}
 use Rattle.clap.specs.Walk.{Rule, Text}
 use Rattle.clap.specs.Simple.{App, Shape, app_of, new_rule, new_shape}
 use Rattle.clap.specs.declared.builder.command.Command.{Command}

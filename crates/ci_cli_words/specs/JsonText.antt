@@ -2,15 +2,12 @@
 use Rattle.std.specs.Prelude.{ℕ, List, ◌++◌, [], ◌∷◌, Option, Some, None, codes}
 use Rattle.serde_json.specs.Data.{Data, object, boolean, null, member, no_members, string, number, unsigned}
 use Rattle.serde_json.specs.Written.{compact_text}
-use Rattle.ci_board.specs.Texts.{status_text}
-use Rattle.ci_machine.specs.Bodies.{source_text}
-use Rattle.ci_machine.specs.Listings.{listed}
-use Rattle.ci_machine.specs.ReportRows.{shown_text}
+use Rattle.ci_board.specs.Prelude.{status_text}
+use Rattle.ci_machine.specs.Prelude.{source_text, listed, shown_text, stamp_text}
 use Rattle.ci_machine.specs.declared.report.QueueRow.{QueueRow}
 use Rattle.ci_machine.specs.declared.report.JobRow.{JobRow}
 use Rattle.ci_machine.specs.declared.report.PipelineRows.{PipelineRows}
 use Rattle.ci_machine.specs.declared.report.RunnerRow.{RunnerRow}
-use Rattle.ci_machine.specs.Dates.{stamp_text}
 
 abbrev pub line_of : Data → List ℕ
 line_of d = compact_text d ++ codes "\n"

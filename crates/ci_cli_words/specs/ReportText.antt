@@ -1,15 +1,13 @@
 -- The texts of reports, line by line and column by column.
 use Rattle.std.specs.Prelude.{ℕ, ◌-◌, ◌^◌, Bool, if◌then◌else◌, List, ◌++◌, length, flat_map, Option, Some, None, codes, decimal}
 use Rattle.std.specs.Fmt.{styled_text, styled_decimal, format_spec}
-use Rattle.ci_board.specs.Texts.{status_text}
+use Rattle.ci_board.specs.Prelude.{status_text}
 use Rattle.ci_machine.specs.declared.records.PipelineWithStatus.{PipelineWithStatus}
-use Rattle.ci_machine.specs.Bodies.{source_text}
-use Rattle.ci_machine.specs.ReportRows.{shown_text}
+use Rattle.ci_machine.specs.Prelude.{source_text, shown_text, moment_text}
 use Rattle.ci_machine.specs.declared.report.QueueRow.{QueueRow}
 use Rattle.ci_machine.specs.declared.report.JobRow.{JobRow}
 use Rattle.ci_machine.specs.declared.report.PipelineRows.{PipelineRows}
 use Rattle.ci_machine.specs.declared.report.RunnerRow.{RunnerRow}
-use Rattle.ci_machine.specs.Dates.{moment_text}
 
 -- ---- columns, in std's words for the options of a format: spaces fill what is narrower, and what is wider stands whole; the function
 -- `fills_columns` says it without those words

@@ -11,8 +11,7 @@ use Rattle.clap.specs.Kinds.{IsAmong}
 use Rattle.clap.specs.Simple.{subcommand_of}
 use Rattle.clap.specs.declared.error.kind.ErrorKind.{ErrorKind}
 use Rattle.clap.specs.declared.error.kind.ErrorKind.TheVariants.{InvalidValue, OutOfMemory}
-use Rattle.ci_values.specs.Names.{is_name}
-use Rattle.ci_values.specs.VariableName.{is_variable_name}
+use Rattle.ci_machine.specs.Prelude.{is_name, is_variable_name}
 use Rattle.ci_machine.specs.declared.records.RefKind.{RefKind}
 use Rattle.ci_machine.specs.declared.records.RefKind.TheVariants.{Branch, Tag}
 use Rattle.ci_machine.specs.declared.records.Source.{Source}
@@ -27,13 +26,10 @@ use Rattle.ci_cli_words.specs.declared.task.PlanOptions.{PlanOptions}
 use Rattle.ci_cli_words.specs.declared.task.ReportForm.{ReportForm}
 use Rattle.ci_cli_words.specs.declared.task.ReportForm.TheVariants.{Table, Json}
 use Rattle.ci_cli_words.specs.declared.task.ReportKind.{ReportKind}
-use Rattle.ci_cli_words.specs.declared.task.ReportKind.TheVariants as report
 use Rattle.ci_cli_words.specs.declared.task.RunnerOptions.{RunnerOptions}
 use Rattle.ci_cli_words.specs.declared.task.ServeOptions.{ServeOptions}
 use Rattle.ci_cli_words.specs.declared.task.Task.{Task}
-use Rattle.ci_cli_words.specs.declared.task.Task.TheVariants as task
 use Rattle.ci_cli_words.specs.declared.command_name.CommandName.{CommandName}
-use Rattle.ci_cli_words.specs.declared.command_name.CommandName.TheVariants as names
 
 -- the result is what is asked for, and there is none where nothing is
 abbrev pub Reads : {T : Type 0} → (T → Type 0) → Option T → Type 0
@@ -115,8 +111,8 @@ PausesBy rows o = (number_of 64 (codes "runner") rows ≡ Some o.runner) × (o.p
 
 -- the kind of a report, by its name and the pipeline's number, which no other report has
 abbrev pub reported : Text → Option ℕ → Option ReportKind
-reported kind (Some pipeline) = if bytes_eq kind (codes "pipeline") then Some (report.Pipeline pipeline) else None
-reported kind None = if bytes_eq kind (codes "queue") then Some report.Queue else (if bytes_eq kind (codes "runners") then Some report.Runners else None)
+reported kind (Some pipeline) = if bytes_eq kind (codes "pipeline") then Some (ReportKind.Pipeline pipeline) else None
+reported kind None = if bytes_eq kind (codes "queue") then Some ReportKind.Queue else (if bytes_eq kind (codes "runners") then Some ReportKind.Runners else None)
 
 abbrev pub report_of : List Row → Option ReportKind
 report_of rows = option_and_then (λ kind. reported kind (number_of 64 (codes "pipeline") rows)) (first_of (codes "kind") rows)
@@ -183,36 +179,36 @@ PlansBy rows o = HasPath rows o.file
 
 abbrev pub command_named : Text → Option CommandName
 command_named text =
-    if bytes_eq text (codes "check") then Some names.Check
-    else (if bytes_eq text (codes "explain") then Some names.Explain
-    else (if bytes_eq text (codes "plan") then Some names.Plan
-    else (if bytes_eq text (codes "init") then Some names.Init
-    else (if bytes_eq text (codes "migrate") then Some names.Migrate
-    else (if bytes_eq text (codes "project-add") then Some names.ProjectAdd
-    else (if bytes_eq text (codes "runner-add") then Some names.RunnerAdd
-    else (if bytes_eq text (codes "runner-pause") then Some names.RunnerPause
-    else (if bytes_eq text (codes "report") then Some names.Report
-    else (if bytes_eq text (codes "prune") then Some names.Prune
-    else (if bytes_eq text (codes "serve") then Some names.Serve else None))))))))))
+    if bytes_eq text (codes "check") then Some CommandName.Check
+    else (if bytes_eq text (codes "explain") then Some CommandName.Explain
+    else (if bytes_eq text (codes "plan") then Some CommandName.Plan
+    else (if bytes_eq text (codes "init") then Some CommandName.Init
+    else (if bytes_eq text (codes "migrate") then Some CommandName.Migrate
+    else (if bytes_eq text (codes "project-add") then Some CommandName.ProjectAdd
+    else (if bytes_eq text (codes "runner-add") then Some CommandName.RunnerAdd
+    else (if bytes_eq text (codes "runner-pause") then Some CommandName.RunnerPause
+    else (if bytes_eq text (codes "report") then Some CommandName.Report
+    else (if bytes_eq text (codes "prune") then Some CommandName.Prune
+    else (if bytes_eq text (codes "serve") then Some CommandName.Serve else None))))))))))
 
 -- what the command asks for, by the matches of its arguments
 abbrev pub Asks : CommandName → List Row → Task → Type 0
-Asks names.Check rows t = (file : Bor Text) × (t ≡ task.Check file) × HasPath rows file
-Asks names.Explain rows t = (file : Bor Text) × (t ≡ task.Explain file) × HasPath rows file
-Asks names.Plan rows t = (options : PlanOptions) × (t ≡ task.Plan options) × PlansBy rows options
-Asks names.Init rows t = (file : Bor Text) × (t ≡ task.Init file) × HasFile rows file
-Asks names.Migrate rows t = (file : Bor Text) × (t ≡ task.Migrate file) × HasFile rows file
-Asks names.ProjectAdd rows t =
-    (file : Bor Text) × (name : Bor Text) × (t ≡ task.Send file (AddProject name)) × HasFile rows file × HasValue (codes "name") rows name
-Asks names.RunnerAdd rows t =
-    (file : Bor Text) × (options : RunnerOptions) × (t ≡ task.Send file (AddRunner options)) × HasFile rows file × RunsBy rows options
-Asks names.RunnerPause rows t =
-    (file : Bor Text) × (pause : RunnerPause) × (t ≡ task.Send file (PauseRunner pause)) × HasFile rows file × PausesBy rows pause
-Asks names.Report rows t =
-    (file : Bor Text) × (kind : ReportKind) × (t ≡ task.Report file kind (report_form_of rows)) × HasFile rows file × (report_of rows ≡ Some kind)
-Asks names.Prune rows t =
-    (file : Bor Text) × (day : Bor Text) × (before : ℕ) × (t ≡ task.Prune file before) × HasFile rows file × HasWord (codes "before") rows day × IsDateAt day.now before
-Asks names.Serve rows t = (options : ServeOptions) × (t ≡ task.Serve options) × ServesBy rows options
+Asks CommandName.Check rows t = (file : Bor Text) × (t ≡ Task.Check file) × HasPath rows file
+Asks CommandName.Explain rows t = (file : Bor Text) × (t ≡ Task.Explain file) × HasPath rows file
+Asks CommandName.Plan rows t = (options : PlanOptions) × (t ≡ Task.Plan options) × PlansBy rows options
+Asks CommandName.Init rows t = (file : Bor Text) × (t ≡ Task.Init file) × HasFile rows file
+Asks CommandName.Migrate rows t = (file : Bor Text) × (t ≡ Task.Migrate file) × HasFile rows file
+Asks CommandName.ProjectAdd rows t =
+    (file : Bor Text) × (name : Bor Text) × (t ≡ Task.Send file (AddProject name)) × HasFile rows file × HasValue (codes "name") rows name
+Asks CommandName.RunnerAdd rows t =
+    (file : Bor Text) × (options : RunnerOptions) × (t ≡ Task.Send file (AddRunner options)) × HasFile rows file × RunsBy rows options
+Asks CommandName.RunnerPause rows t =
+    (file : Bor Text) × (pause : RunnerPause) × (t ≡ Task.Send file (PauseRunner pause)) × HasFile rows file × PausesBy rows pause
+Asks CommandName.Report rows t =
+    (file : Bor Text) × (kind : ReportKind) × (t ≡ Task.Report file kind (report_form_of rows)) × HasFile rows file × (report_of rows ≡ Some kind)
+Asks CommandName.Prune rows t =
+    (file : Bor Text) × (day : Bor Text) × (before : ℕ) × (t ≡ Task.Prune file before) × HasFile rows file × HasWord (codes "before") rows day × IsDateAt day.now before
+Asks CommandName.Serve rows t = (options : ServeOptions) × (t ≡ Task.Serve options) × ServesBy rows options
 
 abbrev pub AsksBy : Option CommandName → List Row → Task → Type 0
 AsksBy None rows t = ⊥

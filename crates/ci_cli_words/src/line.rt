@@ -2,7 +2,7 @@
 
 ghost use Rattle.std.specs.Prelude.{◌≡◌, ◌++◌, Some, IfOk, OnOk, OnErr, codes};
 ghost use Rattle.std.specs.Io.KnownBytes.{Appends};
-ghost use Rattle.ci_machine.specs.Reply.{body_text};
+ghost use Rattle.ci_machine.specs.Prelude.{body_text};
 ghost use Rattle.ci_cli_words.specs.Lines.{line_text, line_status, reply_status, told, Told};
 
 use ci_machine::reply::{Code, Reply};

@@ -1,31 +1,15 @@
 -- With any choice of the patterns that are built a tree is read as with each, or X8 comes of a pattern.
-use Rattle.std.proofs.Common.{◌≡◌, ◌⊎◌, inl, inr, ℕ, suc, Bool, true, false, cond, List, [], ◌∷◌, ◌++◌, Option, Some, None, Result, Ok, Err, not, ◌||◌, length, refl, sym, ◌∙◌, ap, subst}
-use Rattle.std.specs.Prelude.{nat_lt}
-use Rattle.ci_values.specs.Names.{is_name}
-use Rattle.ci_values.specs.Table.{meaning_of, word_in}
-use Rattle.ci_yaml_lines.specs.Tree.{sequence, mapping, Value, null, boolean, number, text, node, Members, no_members, member}
-use Rattle.ci_expr.specs.declared.fault.ExprCode.{ExprCode}
-use Rattle.ci_expr.specs.declared.fault.ExprCode.TheVariants.{X8}
-use Rattle.ci_expr.specs.Formula.{Formula, has_pattern}
-use Rattle.ci_config.specs.Config.{Text, Rule, Job, Config}
-use Rattle.ci_expr.specs.Computed.{expression_of}
-use Rattle.ci_config.specs.Expressions.{Patterns, built, refused, below, are_built, condition_by, condition_of}
-use Rattle.ci_config.specs.Fault.{Fault, K1, K11, K13, K16, Placed}
-use Rattle.ci_config.specs.Files.{FileSaid, job_of, with_job, job_value, is_hidden, other_value, file_value, file_entry, blank_file, file_from}
+use Rattle.std.proofs.Common.{◌≡◌, ◌⊎◌, inl, inr, ℕ, suc, Bool, true, false, cond, List, [], ◌∷◌, ◌++◌, Option, Some, None, Result, Ok, Err, not, ◌||◌, length, refl, sym, ◌∙◌, ap}
+use Rattle.std.proofs.Common.{subst, nat_lt}
+use Rattle.ci_config.specs.Prelude.{is_name, meaning_of, word_in, sequence, mapping, Value, null, boolean, number, text, node, Members, no_members, member, ExprCode, X8, Formula}
+use Rattle.ci_config.specs.Prelude.{has_pattern, Rule, Job, Config, expression_of, Patterns, built, refused, below, are_built, condition_by, condition_of, Fault, K1, K11, K13, K16}
+use Rattle.ci_config.specs.Prelude.{Placed, FileSaid, job_of, with_job, job_value, is_hidden, other_value, file_value, file_entry, blank_file, file_from, rules_value, job_entry}
+use Rattle.ci_config.specs.Prelude.{blank_job, job_from, HasNoPattern, LacksPatterns, AllLackPatterns, Each, Means, judged, config_of, file_config, reading, unplaced, meaning}
+use Rattle.ci_config.specs.Prelude.{◌>>=◌, fails_at, within, demand, each, entries, keyword_of, condition_value, rule_value, rule_entry, blank_rule, rule_from, rule_of, rules_from}
+use Rattle.ci_config.specs.Prelude.{rules_of, rule_keywords, rule_left_out, job_keywords, job_left_out, file_keywords, file_left_out, items_in, pairs_in, text_of, map_of, list_of}
+use Rattle.ci_config.specs.Prelude.{is_map, FileKeyword, JobKeyword, RuleKeyword, MAX_RULES, MAX_JOBS}
+use Rattle.ci_config.specs.Config.{Text}
 use Rattle.ci_config.specs.Jobs as job
-use Rattle.ci_config.specs.Jobs.{rules_value, job_entry, blank_job, job_from}
-use Rattle.ci_config.specs.Laws.{HasNoPattern, LacksPatterns, AllLackPatterns, Each}
-use Rattle.ci_config.specs.Meaning.{Means, judged, config_of, file_config, reading, unplaced, meaning}
-use Rattle.ci_config.specs.Reading.{◌>>=◌, fails_at, within, demand, each, entries, keyword_of}
-use Rattle.ci_config.specs.Rules.{condition_value, rule_value, rule_entry, blank_rule, rule_from, rule_of, rules_from, rules_of}
-use Rattle.ci_config.specs.Tables.{rule_keywords, rule_left_out, job_keywords, job_left_out, file_keywords, file_left_out}
-use Rattle.ci_config.specs.Values.{items_in, pairs_in, text_of, map_of, list_of, is_map}
-use Rattle.ci_config.specs.declared.keyword.FileKeyword.{FileKeyword}
-use Rattle.ci_config.specs.declared.keyword.JobKeyword.{JobKeyword}
-use Rattle.ci_config.specs.declared.keyword.JobKeyword.TheVariants as of_job
-use Rattle.ci_config.specs.declared.keyword.RuleKeyword.{RuleKeyword}
-use Rattle.ci_config.specs.declared.keyword.RuleKeyword.TheVariants as of_rule
-use Rattle.ci_config.specs.declared.limits.TheConstants.{MAX_RULES, MAX_JOBS}
 
 -- With any choice of the patterns that are built it is read as with each; or it is X8, and with none built too, and then it
 -- isn't so that there is no pattern.
@@ -169,8 +153,8 @@ alike-condition_value v r =
     (λ bs e. alike-then (condition_of bs) (λ f p. Ok (record r { condition = Some f })) (weaken (condition_of bs) (text-lacks v bs e) (alike-condition bs)) (λ f p. inl refl))
 
 alike-rule_value : (k : RuleKeyword) (v : Value) (r : Rule) → Alike (LacksPatterns v) (rule_value k v r)
-alike-rule_value of_rule.If v r = alike-condition_value v r
-alike-rule_value (of_rule.Plain k) v r = λ p. inl refl
+alike-rule_value RuleKeyword.If v r = alike-condition_value v r
+alike-rule_value (RuleKeyword.Plain k) v r = λ p. inl refl
 
 pub alike-rule_entry : (m : Text × Value) (r : Rule) → Alike (LacksPatterns m.1) (λ p. rule_entry p m r)
 alike-rule_entry m r = alike-read (keyword_of rule_keywords rule_left_out m.0) (λ k. rule_value k m.1 r) (λ k e. alike-rule_value k m.1 r)
@@ -192,8 +176,8 @@ alike-rules_value : (v : Value) (j : Job) → Alike (LacksPatterns v) (rules_val
 alike-rules_value v j = alike-then (rules_of v) (λ rs p. Ok (record j { rules = Some rs })) (alike-rules_of v) (λ rs p. inl refl)
 
 alike-job_value : (k : JobKeyword) (v : Value) (j : Job) → Alike (LacksPatterns v) (job.job_value k v j)
-alike-job_value of_job.Rules v j = alike-rules_value v j
-alike-job_value (of_job.Plain k) v j = λ p. inl refl
+alike-job_value JobKeyword.Rules v j = alike-rules_value v j
+alike-job_value (JobKeyword.Plain k) v j = λ p. inl refl
 
 pub alike-job_entry : (m : Text × Value) (j : Job) → Alike (LacksPatterns m.1) (λ p. job_entry p m j)
 alike-job_entry m j = alike-read (keyword_of job_keywords job_left_out m.0) (λ k. job.job_value k m.1 j) (λ k e. alike-job_value k m.1 j)

@@ -1,42 +1,17 @@
 -- What is read with every pattern refused holds no pattern.
-use Rattle.std.proofs.Common.{◌≡◌, ◌⊎◌, ◌++◌, ap₂, sym, ◌∙◌, ℕ, Bool, true, false, cond, not, List, [], ◌∷◌, map, Option, Some, None, Result, Ok, Err, length, refl, subst, inl, inr}
-use Rattle.std.specs.Prelude.{nat_lt, flat_map}
-use Rattle.ci_values.specs.Names.{is_name}
-use Rattle.ci_values.specs.Table.{meaning_of, word_in}
-use Rattle.ci_yaml_lines.specs.Tree.{Value}
-use Rattle.ci_expr.specs.Computed.{expression_of}
-use Rattle.ci_expr.specs.Formula.{Formula, has_pattern}
-use Rattle.ci_expr.specs.declared.fault.ExprCode.{ExprCode}
-use Rattle.ci_expr.specs.declared.fault.ExprCode.TheVariants.{X8}
-use Rattle.ci_config.specs.AllowFailures.{allow_failure_of}
+use Rattle.std.proofs.Common.{◌≡◌, ◌⊎◌, ◌++◌, ap₂, sym, ◌∙◌, ℕ, Bool, true, false, cond, not, List, [], ◌∷◌, map, Option, Some, None, Result, Ok, Err, length, refl, subst, inl}
+use Rattle.std.proofs.Common.{inr, nat_lt, flat_map}
+use Rattle.ci_config.specs.Prelude.{is_name, meaning_of, word_in, Value, expression_of, Formula, has_pattern, ExprCode, X8, allow_failure_of, Rule, Job, refused, condition_by}
+use Rattle.ci_config.specs.Prelude.{condition_of, K1, K11, K13, K15, K16, Placed, FileSaid, stages_of, is_hidden, job_of, with_job, job_value, other_value, keyword_value}
+use Rattle.ci_config.specs.Prelude.{file_value, file_entry, blank_file, file_from, script_of, plain_job_value, job_entry, blank_job, job_from, Each, RuleLacksPattern}
+use Rattle.ci_config.specs.Prelude.{JobLacksPatterns, ConfigLacksPatterns, Means, config_of, is_nil, judged, file_config, reading, meaning, needs_of, ◌>>=◌, demand, keyword_of}
+use Rattle.ci_config.specs.Prelude.{retry_of, plain_rule_value, rule_value, rule_entry, blank_rule, rule_from, rule_of, rules_from, rules_of, rule_keywords, rule_left_out}
+use Rattle.ci_config.specs.Prelude.{job_keywords, job_left_out, file_keywords, file_left_out, is_map, text_of, bool_of, list_of, map_of, name_of, timeout_of, names_of}
+use Rattle.ci_config.specs.Prelude.{variables_of, when_of, rule_when_of, FileKeyword, JobKeyword, PlainJobKeyword, PlainRuleKeyword, RuleKeyword, MAX_JOBS, MAX_RULES, MAX_TAGS}
 use Rattle.ci_config.specs.Config as config
-use Rattle.ci_config.specs.Config.{Text, Rule, Job}
-use Rattle.ci_config.specs.Expressions.{refused, condition_by, condition_of}
-use Rattle.ci_config.specs.Fault.{K1, K11, K13, K15, K16, Placed}
-use Rattle.ci_config.specs.Files.{FileSaid, stages_of, is_hidden, job_of, with_job, job_value, other_value, keyword_value, file_value, file_entry, blank_file, file_from}
+use Rattle.ci_config.specs.Config.{Text}
 use Rattle.ci_config.specs.Jobs as job
-use Rattle.ci_config.specs.Jobs.{script_of, plain_job_value, job_entry, blank_job, job_from}
-use Rattle.ci_config.specs.Laws.{Each, RuleLacksPattern, JobLacksPatterns, ConfigLacksPatterns}
-use Rattle.ci_config.specs.Meaning.{Means, config_of, is_nil, judged, file_config, reading, meaning}
-use Rattle.ci_config.specs.Needs.{needs_of}
-use Rattle.ci_config.specs.Reading.{◌>>=◌, demand, keyword_of}
-use Rattle.ci_config.specs.Retries.{retry_of}
-use Rattle.ci_config.specs.Rules.{plain_rule_value, rule_value, rule_entry, blank_rule, rule_from, rule_of, rules_from, rules_of}
-use Rattle.ci_config.specs.Tables.{rule_keywords, rule_left_out, job_keywords, job_left_out, file_keywords, file_left_out}
-use Rattle.ci_config.specs.Values.{is_map, text_of, bool_of, list_of, map_of, name_of, timeout_of, names_of, variables_of}
-use Rattle.ci_config.specs.Whens.{when_of, rule_when_of}
 use Rattle.ci_config.specs.declared.file.Config.{Config}
-use Rattle.ci_config.specs.declared.keyword.FileKeyword.{FileKeyword}
-use Rattle.ci_config.specs.declared.keyword.FileKeyword.TheVariants as of_file
-use Rattle.ci_config.specs.declared.keyword.JobKeyword.{JobKeyword}
-use Rattle.ci_config.specs.declared.keyword.JobKeyword.TheVariants as of_key
-use Rattle.ci_config.specs.declared.keyword.PlainJobKeyword.{PlainJobKeyword}
-use Rattle.ci_config.specs.declared.keyword.PlainJobKeyword.TheVariants as of_job
-use Rattle.ci_config.specs.declared.keyword.PlainRuleKeyword.{PlainRuleKeyword}
-use Rattle.ci_config.specs.declared.keyword.PlainRuleKeyword.TheVariants as of_rule
-use Rattle.ci_config.specs.declared.keyword.RuleKeyword.{RuleKeyword}
-use Rattle.ci_config.specs.declared.keyword.RuleKeyword.TheVariants as of_rules
-use Rattle.ci_config.specs.declared.limits.TheConstants.{MAX_JOBS, MAX_RULES, MAX_TAGS}
 use Rattle.ci_config.proofs.Alike.{AlikeIn, alike}
 use Rattle.ci_config.proofs.Wholes.{bound, demanded, same-ok, each-append, each-read, entries-read, not-true, jobs-judged, read-ok}
 
@@ -63,16 +38,16 @@ condition-lacks bs f e = by-value (expression_of bs) e
         subst Lacks (same-ok g f d.1) (not-true (has_pattern g) d.0)
 
 plain-rule-lacks : (k : PlainRuleKeyword) (v : Value) (r s : Rule) → RuleLacks r → plain_rule_value k v r ≡ Ok s → RuleLacks s
-plain-rule-lacks of_rule.When v r s h e = sets RuleLacks (rule_when_of v) (λ w. record r { when = Some w }) s (λ w. h) e
-plain-rule-lacks of_rule.AllowFailure v r s h e = sets RuleLacks (bool_of v) (λ b. record r { allow_failure = Some b }) s (λ b. h) e
-plain-rule-lacks of_rule.Variables v r s h e = sets RuleLacks (variables_of v) (λ vs. record r { variables = vs }) s (λ vs. h) e
+plain-rule-lacks PlainRuleKeyword.When v r s h e = sets RuleLacks (rule_when_of v) (λ w. record r { when = Some w }) s (λ w. h) e
+plain-rule-lacks PlainRuleKeyword.AllowFailure v r s h e = sets RuleLacks (bool_of v) (λ b. record r { allow_failure = Some b }) s (λ b. h) e
+plain-rule-lacks PlainRuleKeyword.Variables v r s h e = sets RuleLacks (variables_of v) (λ vs. record r { variables = vs }) s (λ vs. h) e
 
 rule-value-lacks : (k : RuleKeyword) (v : Value) (r s : Rule) → RuleLacks r → rule_value k v r refused ≡ Ok s → RuleLacks s
-rule-value-lacks of_rules.If v r s h e =
+rule-value-lacks RuleKeyword.If v r s h e =
     let a = bound (text_of v) (λ bs. condition_of bs refused >>= λ f. Ok (record r { condition = Some f })) s e in
     let b = bound (condition_of a.value refused) (λ f. Ok (record r { condition = Some f })) s a.next in
     subst RuleLacks (same-ok (record r { condition = Some b.value }) s b.next) (condition-lacks a.value b.value b.first)
-rule-value-lacks (of_rules.Plain k) v r s h e = plain-rule-lacks k v r s h e
+rule-value-lacks (RuleKeyword.Plain k) v r s h e = plain-rule-lacks k v r s h e
 
 rule-entry-lacks : (m : Text × Value) (r s : Rule) → RuleLacks r → rule_entry refused m r ≡ Ok s → RuleLacks s
 rule-entry-lacks m r s h e =
@@ -95,23 +70,23 @@ abbrev JobLacks : Job → Type 0
 JobLacks = JobLacksPatterns
 
 plain-value-lacks : (k : PlainJobKeyword) (v : Value) (j i : Job) → JobLacks j → plain_job_value k v j ≡ Ok i → JobLacks i
-plain-value-lacks of_job.Script v j i h e = sets JobLacks (script_of v) (λ x. record j { script = x }) i (λ x. h) e
-plain-value-lacks of_job.Stage v j i h e = sets JobLacks (name_of v) (λ x. record j { stage = x }) i (λ x. h) e
-plain-value-lacks of_job.Needs v j i h e = sets JobLacks (needs_of v) (λ x. record j { needs = Some x }) i (λ x. h) e
-plain-value-lacks of_job.When v j i h e = sets JobLacks (when_of v) (λ x. record j { when = Some x }) i (λ x. h) e
-plain-value-lacks of_job.AllowFailure v j i h e = sets JobLacks (allow_failure_of v) (λ x. record j { allow_failure = Some x }) i (λ x. h) e
-plain-value-lacks of_job.Retry v j i h e = sets JobLacks (retry_of v) (λ x. record j { retry = Some x }) i (λ x. h) e
-plain-value-lacks of_job.Tags v j i h e = sets JobLacks (names_of MAX_TAGS v) (λ x. record j { tags = x }) i (λ x. h) e
-plain-value-lacks of_job.Timeout v j i h e = sets JobLacks (timeout_of v) (λ x. record j { timeout = Some x }) i (λ x. h) e
-plain-value-lacks of_job.ResourceGroup v j i h e = sets JobLacks (name_of v) (λ x. record j { resource_group = Some x }) i (λ x. h) e
-plain-value-lacks of_job.Interruptible v j i h e = sets JobLacks (bool_of v) (λ x. record j { interruptible = x }) i (λ x. h) e
-plain-value-lacks of_job.Variables v j i h e = sets JobLacks (variables_of v) (λ x. record j { variables = x }) i (λ x. h) e
+plain-value-lacks PlainJobKeyword.Script v j i h e = sets JobLacks (script_of v) (λ x. record j { script = x }) i (λ x. h) e
+plain-value-lacks PlainJobKeyword.Stage v j i h e = sets JobLacks (name_of v) (λ x. record j { stage = x }) i (λ x. h) e
+plain-value-lacks PlainJobKeyword.Needs v j i h e = sets JobLacks (needs_of v) (λ x. record j { needs = Some x }) i (λ x. h) e
+plain-value-lacks PlainJobKeyword.When v j i h e = sets JobLacks (when_of v) (λ x. record j { when = Some x }) i (λ x. h) e
+plain-value-lacks PlainJobKeyword.AllowFailure v j i h e = sets JobLacks (allow_failure_of v) (λ x. record j { allow_failure = Some x }) i (λ x. h) e
+plain-value-lacks PlainJobKeyword.Retry v j i h e = sets JobLacks (retry_of v) (λ x. record j { retry = Some x }) i (λ x. h) e
+plain-value-lacks PlainJobKeyword.Tags v j i h e = sets JobLacks (names_of MAX_TAGS v) (λ x. record j { tags = x }) i (λ x. h) e
+plain-value-lacks PlainJobKeyword.Timeout v j i h e = sets JobLacks (timeout_of v) (λ x. record j { timeout = Some x }) i (λ x. h) e
+plain-value-lacks PlainJobKeyword.ResourceGroup v j i h e = sets JobLacks (name_of v) (λ x. record j { resource_group = Some x }) i (λ x. h) e
+plain-value-lacks PlainJobKeyword.Interruptible v j i h e = sets JobLacks (bool_of v) (λ x. record j { interruptible = x }) i (λ x. h) e
+plain-value-lacks PlainJobKeyword.Variables v j i h e = sets JobLacks (variables_of v) (λ x. record j { variables = x }) i (λ x. h) e
 
 job-value-lacks : (k : JobKeyword) (v : Value) (j i : Job) → JobLacks j → job.job_value k v j refused ≡ Ok i → JobLacks i
-job-value-lacks of_key.Rules v j i h e =
+job-value-lacks JobKeyword.Rules v j i h e =
     let b = bound (rules_of v refused) (λ x. Ok (record j { rules = Some x })) i e in
     subst JobLacks (same-ok (record j { rules = Some b.value }) i b.next) (rules-lack v b.value b.first)
-job-value-lacks (of_key.Plain k) v j i h e = plain-value-lacks k v j i h e
+job-value-lacks (JobKeyword.Plain k) v j i h e = plain-value-lacks k v j i h e
 
 job-entry-lacks : (m : Text × Value) (j i : Job) → JobLacks j → job_entry refused m j ≡ Ok i → JobLacks i
 job-entry-lacks m j i h e =
@@ -144,8 +119,8 @@ other-lacks None key v f g h e = by-test (is_hidden key) e
     by-test false e = file-job-lacks key v f g h e
 
 keyword-lacks : (k : FileKeyword) (v : Value) (f g : FileSaid) → JobsLack f → keyword_value k v f ≡ Ok g → JobsLack g
-keyword-lacks of_file.Stages v f g h e = sets JobsLack (stages_of v) (λ x. record f { stages = Some x }) g (λ x. h) e
-keyword-lacks of_file.Variables v f g h e = sets JobsLack (variables_of v) (λ x. record f { variables = x }) g (λ x. h) e
+keyword-lacks FileKeyword.Stages v f g h e = sets JobsLack (stages_of v) (λ x. record f { stages = Some x }) g (λ x. h) e
+keyword-lacks FileKeyword.Variables v f g h e = sets JobsLack (variables_of v) (λ x. record f { variables = x }) g (λ x. h) e
 
 file-value-lacks : (o : Option FileKeyword) (key : Text) (v : Value) (f g : FileSaid) → JobsLack f → file_value o key v f refused ≡ Ok g → JobsLack g
 file-value-lacks (Some k) key v f g h e = keyword-lacks k v f g h e

@@ -1,51 +1,23 @@
 -- The meaning of a tree is never X8: that is the fault of a pattern that was refused.
-use Rattle.std.proofs.Common.{◌≡◌, ◌≢◌, ℕ, suc, Bool, true, false, cond, not, List, [], ◌∷◌, ◌++◌, Option, Some, None, Result, Ok, Err, length, refl, sym, ◌∙◌, ap}
-use Rattle.std.specs.Prelude.{nat_lt, ⊤}
-use Rattle.ci_values.specs.Names.{is_name}
-use Rattle.ci_values.specs.declared.when.Causes.{Causes}
-use Rattle.ci_values.specs.Duration.{duration_of}
-use Rattle.ci_values.specs.Layers.{Variables}
-use Rattle.ci_values.specs.VariableName.{is_variable_name}
-use Rattle.ci_values.specs.Table.{meaning_of, word_in}
-use Rattle.ci_yaml_lines.specs.Tree.{sequence, mapping, Value, null, boolean, number, text, node}
-use Rattle.ci_expr.specs.declared.fault.ExprCode.{ExprCode}
-use Rattle.ci_expr.specs.declared.fault.ExprCode.TheVariants.{X1, X2, X3, X4, X5, X6, X7, X8}
-use Rattle.ci_expr.specs.Formula.{Formula}
-use Rattle.ci_expr.specs.Meaning.{IsOwn}
-use Rattle.ci_config.specs.AllowFailures.{exit_code_of, exit_code_in, exit_codes_of, allow_failure_value, allow_failure_entry, allow_failure_said, allow_failure_from, yes_or_no, allow_failure_of}
-use Rattle.ci_config.specs.Config.{Text, Need, Rule, Job, Config}
-use Rattle.ci_expr.specs.Computed.{expression_of}
-use Rattle.ci_config.specs.Expressions.{built, condition_by, condition_of}
-use Rattle.ci_config.specs.Fault.{Fault, K1, K4, K5, K6, K7, K8, K9, K10, K11, K12, K13, K15, K16, Placed}
-use Rattle.ci_config.specs.Files.{FileSaid, is_among, stage_in, stages_of, is_hidden, job_of, with_job, job_value, other_value, file_value, file_entry, blank_file, file_from}
+use Rattle.std.proofs.Common.{◌≡◌, ◌≢◌, ℕ, suc, Bool, true, false, cond, not, List, [], ◌∷◌, ◌++◌, Option, Some, None, Result, Ok, Err, length, refl, sym, ◌∙◌, ap, nat_lt}
+use Rattle.std.specs.Prelude.{⊤}
+use Rattle.ci_config.specs.Prelude.{is_name, Causes, duration_of, Variables, is_variable_name, meaning_of, word_in, sequence, mapping, Value, null, boolean, number, text, node}
+use Rattle.ci_config.specs.Prelude.{ExprCode, X1, X2, X3, X4, X5, X6, X7, X8, Formula, IsOwn, exit_code_of, exit_code_in, exit_codes_of, allow_failure_value, allow_failure_entry}
+use Rattle.ci_config.specs.Prelude.{allow_failure_said, allow_failure_from, yes_or_no, allow_failure_of, Need, Rule, Job, Config, expression_of, built, condition_by, condition_of}
+use Rattle.ci_config.specs.Prelude.{Fault, K1, K4, K5, K6, K7, K8, K9, K10, K11, K12, K13, K15, K16, Placed, FileSaid, is_among, stage_in, stages_of, is_hidden, job_of, with_job}
+use Rattle.ci_config.specs.Prelude.{job_value, other_value, file_value, file_entry, blank_file, file_from, lines_of, script_of, plain_job_value, job_entry, blank_job, job_from}
+use Rattle.ci_config.specs.Prelude.{config_of, is_nil, index_of, jobs_judged, judged, file_config, reading, unplaced, meaning, NeedSaid, need_value, need_entry, need_said}
+use Rattle.ci_config.specs.Prelude.{blank_need, need_from, need_of, needs_of, ◌>>=◌, within, demand, demand_at, or_fault, each, entries, left_out_or_unknown, other_key, keyword_of}
+use Rattle.ci_config.specs.Prelude.{no_causes, all_causes, with_cause, cause_of, cause_in, causes_of, RetrySaid, max_of, retry_value, retry_entry, retry_said, blank_retry}
+use Rattle.ci_config.specs.Prelude.{retry_from, retry_of, rule_value, rule_entry, blank_rule, rule_from, rule_of, rules_from, rules_of, whens, causes, file_keywords, file_left_out}
+use Rattle.ci_config.specs.Prelude.{job_keywords, job_left_out, rule_keywords, rule_left_out, need_keywords, need_left_out, retry_keywords, retry_left_out, allow_failure_keywords}
+use Rattle.ci_config.specs.Prelude.{allow_failure_left_out, is_text, is_bool, is_number, is_map, text_of, bool_of, list_of, map_of, plain_of, name_of, up_to, number_up_to, lasting}
+use Rattle.ci_config.specs.Prelude.{timeout_of, text_in, texts_of, name_in, names_of, variable_in, variables_of, when_word, in_job, when_of, in_rule, rule_when_of}
+use Rattle.ci_config.specs.Prelude.{AllowFailureKeyword, FileKeyword, JobKeyword, NeedKeyword, PlainJobKeyword, PlainRuleKeyword, RetryKeyword, RuleKeyword, WhenWord, Runs, Never}
+use Rattle.ci_config.specs.Prelude.{Delayed, MAX_STAGES, MAX_JOBS, MAX_VARIABLES, MAX_TAGS, MAX_RULES, MAX_SCRIPT_ITEMS, MAX_EXIT_CODE, MAX_EXIT_CODES, MAX_RETRIES}
+use Rattle.ci_config.specs.Config.{Text}
 use Rattle.ci_config.specs.Jobs as job
-use Rattle.ci_config.specs.Jobs.{lines_of, script_of, plain_job_value, job_entry, blank_job, job_from}
-use Rattle.ci_config.specs.Meaning.{config_of, is_nil, index_of, jobs_judged, judged, file_config, reading, unplaced, meaning}
-use Rattle.ci_config.specs.Needs.{NeedSaid, need_value, need_entry, need_said, blank_need, need_from, need_of, needs_of}
-use Rattle.ci_config.specs.Reading.{◌>>=◌, within, demand, demand_at, or_fault, each, entries, left_out_or_unknown, other_key, keyword_of}
-use Rattle.ci_config.specs.Retries.{no_causes, all_causes, with_cause, cause_of, cause_in, causes_of, RetrySaid, max_of, retry_value, retry_entry, retry_said, blank_retry, retry_from, retry_of}
-use Rattle.ci_config.specs.Rules.{rule_value, rule_entry, blank_rule, rule_from, rule_of, rules_from, rules_of}
-use Rattle.ci_config.specs.Tables.{whens, causes, file_keywords, file_left_out, job_keywords, job_left_out, rule_keywords, rule_left_out, need_keywords, need_left_out, retry_keywords, retry_left_out, allow_failure_keywords, allow_failure_left_out}
-use Rattle.ci_config.specs.Values.{is_text, is_bool, is_number, is_map, text_of, bool_of, number_of, list_of, map_of, plain_of, name_of, up_to, number_up_to, lasting, timeout_of, text_in, texts_of, name_in, names_of, variable_in, variables_of}
-use Rattle.ci_config.specs.Whens.{when_word, in_job, when_of, in_rule, rule_when_of}
-use Rattle.ci_config.specs.declared.keyword.AllowFailureKeyword.{AllowFailureKeyword}
-use Rattle.ci_config.specs.declared.keyword.AllowFailureKeyword.TheVariants as of_allow
-use Rattle.ci_config.specs.declared.keyword.FileKeyword.{FileKeyword}
-use Rattle.ci_config.specs.declared.keyword.FileKeyword.TheVariants as of_file
-use Rattle.ci_config.specs.declared.keyword.JobKeyword.{JobKeyword}
-use Rattle.ci_config.specs.declared.keyword.JobKeyword.TheVariants as of_key
-use Rattle.ci_config.specs.declared.keyword.NeedKeyword.{NeedKeyword}
-use Rattle.ci_config.specs.declared.keyword.NeedKeyword.TheVariants as of_need
-use Rattle.ci_config.specs.declared.keyword.PlainJobKeyword.{PlainJobKeyword}
-use Rattle.ci_config.specs.declared.keyword.PlainJobKeyword.TheVariants as of_job
-use Rattle.ci_config.specs.declared.keyword.PlainRuleKeyword.TheVariants as of_rule
-use Rattle.ci_config.specs.declared.keyword.RetryKeyword.{RetryKeyword}
-use Rattle.ci_config.specs.declared.keyword.RetryKeyword.TheVariants as of_retry
-use Rattle.ci_config.specs.declared.keyword.RuleKeyword.{RuleKeyword}
-use Rattle.ci_config.specs.declared.keyword.RuleKeyword.TheVariants as of_rules
-use Rattle.ci_config.specs.declared.keyword.WhenWord.{WhenWord}
-use Rattle.ci_config.specs.declared.keyword.WhenWord.TheVariants.{Runs, Never, Delayed}
-use Rattle.ci_config.specs.declared.limits.TheConstants.{MAX_STAGES, MAX_JOBS, MAX_VARIABLES, MAX_TAGS, MAX_RULES, MAX_SCRIPT_ITEMS, MAX_EXIT_CODE, MAX_EXIT_CODES, MAX_RETRIES}
+use Rattle.ci_config.specs.Values.{number_of}
 
 -- no expression has X8 as a fault of its own
 abbrev ExpressionsOwn : Type 0
@@ -209,8 +181,8 @@ own-max : (v : Value) → Own (max_of v)
 own-max v = own-up_to MAX_RETRIES K9 v refl
 
 own-retry_value : (k : RetryKeyword) (v : Value) (r : RetrySaid) → Own (retry_value k v r)
-own-retry_value of_retry.Max v r = own-then (max_of v) (λ max. Ok (record r { max = Some max })) (own-max v) (λ max. tt)
-own-retry_value of_retry.When v r = own-then (causes_of v) (λ causes. Ok (record r { causes = causes })) (own-causes v) (λ causes. tt)
+own-retry_value RetryKeyword.Max v r = own-then (max_of v) (λ max. Ok (record r { max = Some max })) (own-max v) (λ max. tt)
+own-retry_value RetryKeyword.When v r = own-then (causes_of v) (λ causes. Ok (record r { causes = causes })) (own-causes v) (λ causes. tt)
 
 own-retry_entry : (m : Text × Value) (r : RetrySaid) → Own (retry_entry m r)
 own-retry_entry m r = own-then (keyword_of retry_keywords retry_left_out m.0) (λ k. retry_value k m.1 r) (own-keyword retry_keywords retry_left_out m.0) (λ k. own-retry_value k m.1 r)
@@ -238,7 +210,7 @@ own-exit_codes v =
     (own-then (list_of v) (λ vs. each exit_code_in [] vs) (own-list v) (λ vs. own-each exit_code_in own-exit_code_in [] vs))
 
 own-allow_value : (k : AllowFailureKeyword) (v : Value) (said : Option (List ℕ)) → Own (allow_failure_value k v said)
-own-allow_value of_allow.ExitCodes v said = own-then (exit_codes_of v) (λ codes. Ok (Some codes)) (own-exit_codes v) (λ codes. tt)
+own-allow_value AllowFailureKeyword.ExitCodes v said = own-then (exit_codes_of v) (λ codes. Ok (Some codes)) (own-exit_codes v) (λ codes. tt)
 
 own-allow_entry : (m : Text × Value) (said : Option (List ℕ)) → Own (allow_failure_entry m said)
 own-allow_entry m said =
@@ -258,8 +230,8 @@ own-allow v =
     (own-then (map_of v) allow_failure_from (own-map v) own-allow_from)
 
 own-need_value : (k : NeedKeyword) (v : Value) (n : NeedSaid) → Own (need_value k v n)
-own-need_value of_need.Job v n = own-then (name_of v) (λ name. Ok (record n { job = Some name })) (own-name v) (λ name. tt)
-own-need_value of_need.Optional v n = own-then (bool_of v) (λ b. Ok (record n { optional = b })) (own-bool v) (λ b. tt)
+own-need_value NeedKeyword.Job v n = own-then (name_of v) (λ name. Ok (record n { job = Some name })) (own-name v) (λ name. tt)
+own-need_value NeedKeyword.Optional v n = own-then (bool_of v) (λ b. Ok (record n { optional = b })) (own-bool v) (λ b. tt)
 
 own-need_entry : (m : Text × Value) (n : NeedSaid) → Own (need_entry m n)
 own-need_entry m n = own-then (keyword_of need_keywords need_left_out m.0) (λ k. need_value k m.1 n) (own-keyword need_keywords need_left_out m.0) (λ k. own-need_value k m.1 n)
@@ -296,12 +268,12 @@ own-condition law bs = by-value (expression_of bs) (law bs)
     by-value (Err x) h = own-code x h
 
 own-rule_value : ExpressionsOwn → (k : RuleKeyword) (v : Value) (r : Rule) → Own (rule_value k v r built)
-own-rule_value law of_rules.If v r =
+own-rule_value law RuleKeyword.If v r =
     own-then (text_of v) (λ bs. condition_of bs built >>= λ f. Ok (record r { condition = Some f })) (own-text v)
     (λ bs. own-then (condition_of bs built) (λ f. Ok (record r { condition = Some f })) (own-condition law bs) (λ f. tt))
-own-rule_value law (of_rules.Plain of_rule.When) v r = own-then (rule_when_of v) (λ w. Ok (record r { when = Some w })) (own-rule_when v) (λ w. tt)
-own-rule_value law (of_rules.Plain of_rule.AllowFailure) v r = own-then (bool_of v) (λ b. Ok (record r { allow_failure = Some b })) (own-bool v) (λ b. tt)
-own-rule_value law (of_rules.Plain of_rule.Variables) v r = own-then (variables_of v) (λ vs. Ok (record r { variables = vs })) (own-variables v) (λ vs. tt)
+own-rule_value law (RuleKeyword.Plain PlainRuleKeyword.When) v r = own-then (rule_when_of v) (λ w. Ok (record r { when = Some w })) (own-rule_when v) (λ w. tt)
+own-rule_value law (RuleKeyword.Plain PlainRuleKeyword.AllowFailure) v r = own-then (bool_of v) (λ b. Ok (record r { allow_failure = Some b })) (own-bool v) (λ b. tt)
+own-rule_value law (RuleKeyword.Plain PlainRuleKeyword.Variables) v r = own-then (variables_of v) (λ vs. Ok (record r { variables = vs })) (own-variables v) (λ vs. tt)
 
 own-rule_entry : ExpressionsOwn → (m : Text × Value) (r : Rule) → Own (rule_entry built m r)
 own-rule_entry law m r = own-then (keyword_of rule_keywords rule_left_out m.0) (λ k. rule_value k m.1 r built) (own-keyword rule_keywords rule_left_out m.0) (λ k. own-rule_value law k m.1 r)
@@ -320,21 +292,21 @@ own-script v =
     own-if (is_text v) (text_of v >>= λ bs. Ok (lines_of bs)) (texts_of MAX_SCRIPT_ITEMS v) (own-then (text_of v) (λ bs. Ok (lines_of bs)) (own-text v) (λ bs. tt)) (own-texts MAX_SCRIPT_ITEMS v)
 
 own-plain_job : (k : PlainJobKeyword) (v : Value) (j : Job) → Own (plain_job_value k v j)
-own-plain_job of_job.Script v j = own-then (script_of v) (λ x. Ok (record j { script = x })) (own-script v) (λ x. tt)
-own-plain_job of_job.Stage v j = own-then (name_of v) (λ x. Ok (record j { stage = x })) (own-name v) (λ x. tt)
-own-plain_job of_job.Needs v j = own-then (needs_of v) (λ x. Ok (record j { needs = Some x })) (own-needs v) (λ x. tt)
-own-plain_job of_job.When v j = own-then (when_of v) (λ x. Ok (record j { when = Some x })) (own-when v) (λ x. tt)
-own-plain_job of_job.AllowFailure v j = own-then (allow_failure_of v) (λ x. Ok (record j { allow_failure = Some x })) (own-allow v) (λ x. tt)
-own-plain_job of_job.Retry v j = own-then (retry_of v) (λ x. Ok (record j { retry = Some x })) (own-retry v) (λ x. tt)
-own-plain_job of_job.Tags v j = own-then (names_of MAX_TAGS v) (λ x. Ok (record j { tags = x })) (own-names MAX_TAGS v) (λ x. tt)
-own-plain_job of_job.Timeout v j = own-then (timeout_of v) (λ x. Ok (record j { timeout = Some x })) (own-timeout v) (λ x. tt)
-own-plain_job of_job.ResourceGroup v j = own-then (name_of v) (λ x. Ok (record j { resource_group = Some x })) (own-name v) (λ x. tt)
-own-plain_job of_job.Interruptible v j = own-then (bool_of v) (λ x. Ok (record j { interruptible = x })) (own-bool v) (λ x. tt)
-own-plain_job of_job.Variables v j = own-then (variables_of v) (λ x. Ok (record j { variables = x })) (own-variables v) (λ x. tt)
+own-plain_job PlainJobKeyword.Script v j = own-then (script_of v) (λ x. Ok (record j { script = x })) (own-script v) (λ x. tt)
+own-plain_job PlainJobKeyword.Stage v j = own-then (name_of v) (λ x. Ok (record j { stage = x })) (own-name v) (λ x. tt)
+own-plain_job PlainJobKeyword.Needs v j = own-then (needs_of v) (λ x. Ok (record j { needs = Some x })) (own-needs v) (λ x. tt)
+own-plain_job PlainJobKeyword.When v j = own-then (when_of v) (λ x. Ok (record j { when = Some x })) (own-when v) (λ x. tt)
+own-plain_job PlainJobKeyword.AllowFailure v j = own-then (allow_failure_of v) (λ x. Ok (record j { allow_failure = Some x })) (own-allow v) (λ x. tt)
+own-plain_job PlainJobKeyword.Retry v j = own-then (retry_of v) (λ x. Ok (record j { retry = Some x })) (own-retry v) (λ x. tt)
+own-plain_job PlainJobKeyword.Tags v j = own-then (names_of MAX_TAGS v) (λ x. Ok (record j { tags = x })) (own-names MAX_TAGS v) (λ x. tt)
+own-plain_job PlainJobKeyword.Timeout v j = own-then (timeout_of v) (λ x. Ok (record j { timeout = Some x })) (own-timeout v) (λ x. tt)
+own-plain_job PlainJobKeyword.ResourceGroup v j = own-then (name_of v) (λ x. Ok (record j { resource_group = Some x })) (own-name v) (λ x. tt)
+own-plain_job PlainJobKeyword.Interruptible v j = own-then (bool_of v) (λ x. Ok (record j { interruptible = x })) (own-bool v) (λ x. tt)
+own-plain_job PlainJobKeyword.Variables v j = own-then (variables_of v) (λ x. Ok (record j { variables = x })) (own-variables v) (λ x. tt)
 
 own-job_value : ExpressionsOwn → (k : JobKeyword) (v : Value) (j : Job) → Own (job.job_value k v j built)
-own-job_value law of_key.Rules v j = own-then (rules_of v built) (λ x. Ok (record j { rules = Some x })) (own-rules law v) (λ x. tt)
-own-job_value law (of_key.Plain k) v j = own-plain_job k v j
+own-job_value law JobKeyword.Rules v j = own-then (rules_of v built) (λ x. Ok (record j { rules = Some x })) (own-rules law v) (λ x. tt)
+own-job_value law (JobKeyword.Plain k) v j = own-plain_job k v j
 
 own-job_entry : ExpressionsOwn → (m : Text × Value) (j : Job) → Own (job_entry built m j)
 own-job_entry law m j = own-then (keyword_of job_keywords job_left_out m.0) (λ k. job.job_value k m.1 j built) (own-keyword job_keywords job_left_out m.0) (λ k. own-job_value law k m.1 j)
@@ -363,8 +335,8 @@ own-other_value law (Some name) key v f = refl
 own-other_value law None key v f = own-if (is_hidden key) (Ok f) (job_value key v f built) tt (own-file_job law key v f)
 
 own-file_value : ExpressionsOwn → (o : Option FileKeyword) (key : Text) (v : Value) (f : FileSaid) → Own (file_value o key v f built)
-own-file_value law (Some of_file.Stages) key v f = own-then (stages_of v) (λ x. Ok (record f { stages = Some x })) (own-stages v) (λ x. tt)
-own-file_value law (Some of_file.Variables) key v f = own-then (variables_of v) (λ x. Ok (record f { variables = x })) (own-variables v) (λ x. tt)
+own-file_value law (Some FileKeyword.Stages) key v f = own-then (stages_of v) (λ x. Ok (record f { stages = Some x })) (own-stages v) (λ x. tt)
+own-file_value law (Some FileKeyword.Variables) key v f = own-then (variables_of v) (λ x. Ok (record f { variables = x })) (own-variables v) (λ x. tt)
 own-file_value law None key v f = own-other_value law (word_in file_left_out key) key v f
 
 own-file_entry : ExpressionsOwn → (m : Text × Value) (f : FileSaid) → Own (file_entry built m f)

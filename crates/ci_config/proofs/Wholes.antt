@@ -1,41 +1,19 @@
 -- What a configuration has: jobs that can run, and names that are names.
-use Rattle.std.proofs.Common.{◌≡◌, ℕ, suc, ◌<◌, ◌≤◌, Bool, true, false, cond, not, List, [], ◌∷◌, ◌++◌, Option, Some, None, Result, Ok, Err, IfSome, length, refl, ap, subst, arith, length-append}
-use Rattle.std.specs.Prelude.{nat_lt, filter, unwrap_or}
+use Rattle.std.proofs.Common.{◌≡◌, ℕ, suc, ◌<◌, ◌≤◌, Bool, true, false, cond, not, List, [], ◌∷◌, ◌++◌, Option, Some, None, Result, Ok, Err, IfSome, length, refl, ap, subst, arith}
+use Rattle.std.proofs.Common.{length-append, nat_lt, filter, unwrap_or}
 use Rattle.std.proofs.lemmas.Bool.Decides.{nat_tests}
-use Rattle.ci_values.specs.Names.{is_name}
-use Rattle.ci_values.specs.Layers.{Variables}
-use Rattle.ci_values.specs.VariableName.{is_variable_name}
-use Rattle.ci_values.specs.Table.{meaning_of, word_in}
-use Rattle.ci_yaml_lines.specs.Tree.{Value}
-use Rattle.ci_config.specs.AllowFailures.{allow_failure_of}
-use Rattle.ci_config.specs.Config.{Text, Need, Rule, Job, Config}
-use Rattle.ci_config.specs.Expressions.{Patterns, below, condition_of}
-use Rattle.ci_config.specs.Fault.{Fault, Placed, K1, K4, K5, K6, K7, K11, K12, K15, K16}
-use Rattle.ci_config.specs.Files.{FileSaid, is_among, stage_in, stages_of, is_hidden, job_of, with_job, job_value, other_value, keyword_value, file_value, file_entry, blank_file, file_from}
+use Rattle.ci_config.specs.Prelude.{is_name, Variables, is_variable_name, meaning_of, word_in, Value, allow_failure_of, Need, Rule, Job, Config, Patterns, below, condition_of}
+use Rattle.ci_config.specs.Prelude.{Fault, Placed, K1, K4, K5, K6, K7, K11, K12, K15, K16, FileSaid, is_among, stage_in, stages_of, is_hidden, job_of, with_job, job_value}
+use Rattle.ci_config.specs.Prelude.{other_value, keyword_value, file_value, file_entry, blank_file, file_from, script_of, plain_job_value, job_entry, blank_job, job_from, Each}
+use Rattle.ci_config.specs.Prelude.{IsName, AreNamed, CanRun, HasNames, IsWhole, post, is_inner, default_stages, all_stages, config_of, is_nil, index_of, jobs_judged, judged}
+use Rattle.ci_config.specs.Prelude.{file_config, reading, unplaced, meaning, NeedSaid, need_value, need_entry, need_said, blank_need, need_from, need_of, needs_of, ◌>>=◌, within}
+use Rattle.ci_config.specs.Prelude.{demand, demand_at, or_fault, each, entries, keyword_of, retry_of, plain_rule_value, rule_value, rule_entry, blank_rule, rule_from, rule_of}
+use Rattle.ci_config.specs.Prelude.{rules_from, rules_of, rule_keywords, rule_left_out, need_keywords, need_left_out, job_keywords, job_left_out, file_keywords, file_left_out}
+use Rattle.ci_config.specs.Prelude.{is_text, is_map, text_of, bool_of, list_of, map_of, plain_of, name_of, timeout_of, name_in, names_of, variable_in, variables_of, when_of}
+use Rattle.ci_config.specs.Prelude.{rule_when_of, FileKeyword, JobKeyword, NeedKeyword, PlainJobKeyword, PlainRuleKeyword, RuleKeyword, MAX_STAGES, MAX_JOBS, MAX_VARIABLES}
+use Rattle.ci_config.specs.Prelude.{MAX_TAGS, MAX_RULES}
+use Rattle.ci_config.specs.Config.{Text}
 use Rattle.ci_config.specs.Jobs as job
-use Rattle.ci_config.specs.Jobs.{script_of, plain_job_value, job_entry, blank_job, job_from}
-use Rattle.ci_config.specs.Laws.{Each, IsName, AreNamed, CanRun, HasNames, IsWhole}
-use Rattle.ci_config.specs.Meaning.{post, is_inner, default_stages, all_stages, config_of, is_nil, index_of, jobs_judged, judged, file_config, reading, unplaced, meaning}
-use Rattle.ci_config.specs.Needs.{NeedSaid, need_value, need_entry, need_said, blank_need, need_from, need_of, needs_of}
-use Rattle.ci_config.specs.Reading.{◌>>=◌, within, demand, demand_at, or_fault, each, entries, keyword_of}
-use Rattle.ci_config.specs.Retries.{retry_of}
-use Rattle.ci_config.specs.Rules.{plain_rule_value, rule_value, rule_entry, blank_rule, rule_from, rule_of, rules_from, rules_of}
-use Rattle.ci_config.specs.Tables.{rule_keywords, rule_left_out, need_keywords, need_left_out, job_keywords, job_left_out, file_keywords, file_left_out}
-use Rattle.ci_config.specs.Values.{is_text, is_map, text_of, bool_of, list_of, map_of, plain_of, name_of, timeout_of, name_in, names_of, variable_in, variables_of}
-use Rattle.ci_config.specs.Whens.{when_of, rule_when_of}
-use Rattle.ci_config.specs.declared.keyword.FileKeyword.{FileKeyword}
-use Rattle.ci_config.specs.declared.keyword.FileKeyword.TheVariants as of_file
-use Rattle.ci_config.specs.declared.keyword.JobKeyword.{JobKeyword}
-use Rattle.ci_config.specs.declared.keyword.JobKeyword.TheVariants as of_key
-use Rattle.ci_config.specs.declared.keyword.NeedKeyword.{NeedKeyword}
-use Rattle.ci_config.specs.declared.keyword.NeedKeyword.TheVariants as of_need
-use Rattle.ci_config.specs.declared.keyword.PlainJobKeyword.{PlainJobKeyword}
-use Rattle.ci_config.specs.declared.keyword.PlainJobKeyword.TheVariants as of_job
-use Rattle.ci_config.specs.declared.keyword.PlainRuleKeyword.{PlainRuleKeyword}
-use Rattle.ci_config.specs.declared.keyword.PlainRuleKeyword.TheVariants as of_rule
-use Rattle.ci_config.specs.declared.keyword.RuleKeyword.{RuleKeyword}
-use Rattle.ci_config.specs.declared.keyword.RuleKeyword.TheVariants as of_rules
-use Rattle.ci_config.specs.declared.limits.TheConstants.{MAX_STAGES, MAX_JOBS, MAX_VARIABLES, MAX_TAGS, MAX_RULES}
 
 -- ---- what was read without a fault
 pub record Bound {A B : Type 0} (m : Result A Placed) (k : A → Result B Placed) (y : B) : Type 0 where
@@ -136,10 +114,10 @@ abbrev NeedNamed : NeedSaid → Type 0
 NeedNamed n = IfSome n.job IsName
 
 need-value-read : (k : NeedKeyword) (v : Value) (s t : NeedSaid) → NeedNamed s → need_value k v s ≡ Ok t → NeedNamed t
-need-value-read of_need.Job v s t h e =
+need-value-read NeedKeyword.Job v s t h e =
     let b = bound (name_of v) (λ name. Ok (record s { job = Some name })) t e in
     subst NeedNamed (same-ok (record s { job = Some b.value }) t b.next) (name-read v b.value b.first)
-need-value-read of_need.Optional v s t h e =
+need-value-read NeedKeyword.Optional v s t h e =
     let b = bound (bool_of v) (λ o. Ok (record s { optional = o })) t e in
     subst NeedNamed (same-ok (record s { optional = b.value }) t b.next) h
 
@@ -177,22 +155,22 @@ abbrev RuleNamed : Rule → Type 0
 RuleNamed r = AreNamed r.variables
 
 plain-rule-read : (k : PlainRuleKeyword) (v : Value) (r s : Rule) → RuleNamed r → plain_rule_value k v r ≡ Ok s → RuleNamed s
-plain-rule-read of_rule.When v r s h e =
+plain-rule-read PlainRuleKeyword.When v r s h e =
     let b = bound (rule_when_of v) (λ w. Ok (record r { when = Some w })) s e in
     subst RuleNamed (same-ok (record r { when = Some b.value }) s b.next) h
-plain-rule-read of_rule.AllowFailure v r s h e =
+plain-rule-read PlainRuleKeyword.AllowFailure v r s h e =
     let b = bound (bool_of v) (λ o. Ok (record r { allow_failure = Some o })) s e in
     subst RuleNamed (same-ok (record r { allow_failure = Some b.value }) s b.next) h
-plain-rule-read of_rule.Variables v r s h e =
+plain-rule-read PlainRuleKeyword.Variables v r s h e =
     let b = bound (variables_of v) (λ vs. Ok (record r { variables = vs })) s e in
     subst RuleNamed (same-ok (record r { variables = b.value }) s b.next) (variables-read v b.value b.first)
 
 rule-value-read : (p : Patterns) (k : RuleKeyword) (v : Value) (r s : Rule) → RuleNamed r → rule_value k v r p ≡ Ok s → RuleNamed s
-rule-value-read p of_rules.If v r s h e =
+rule-value-read p RuleKeyword.If v r s h e =
     let a = bound (text_of v) (λ bs. condition_of bs p >>= λ f. Ok (record r { condition = Some f })) s e in
     let b = bound (condition_of a.value p) (λ f. Ok (record r { condition = Some f })) s a.next in
     subst RuleNamed (same-ok (record r { condition = Some b.value }) s b.next) h
-rule-value-read p (of_rules.Plain k) v r s h e = plain-rule-read k v r s h e
+rule-value-read p (RuleKeyword.Plain k) v r s h e = plain-rule-read k v r s h e
 
 rule-entry-read : (p : Patterns) (m : Text × Value) (r s : Rule) → RuleNamed r → rule_entry p m r ≡ Ok s → RuleNamed s
 rule-entry-read p m r s h e =
@@ -212,52 +190,52 @@ rules-read p v rs e =
 
 -- ---- jobs
 plain-value-read : (k : PlainJobKeyword) (v : Value) (j i : Job) → HasNames j → plain_job_value k v j ≡ Ok i → HasNames i
-plain-value-read of_job.Script v j i h e =
+plain-value-read PlainJobKeyword.Script v j i h e =
     let b = bound (script_of v) (λ x. Ok (record j { script = x })) i e in
     subst HasNames (same-ok (record j { script = b.value }) i b.next) (record { name = h.name; stage = h.stage; tags = h.tags; resource_group = h.resource_group; needs = h.needs; rules = h.rules; variables = h.variables })
-plain-value-read of_job.Stage v j i h e =
+plain-value-read PlainJobKeyword.Stage v j i h e =
     let b = bound (name_of v) (λ x. Ok (record j { stage = x })) i e in
     subst HasNames (same-ok (record j { stage = b.value }) i b.next)
     (record { name = h.name; stage = name-read v b.value b.first; tags = h.tags; resource_group = h.resource_group; needs = h.needs; rules = h.rules; variables = h.variables })
-plain-value-read of_job.Needs v j i h e =
+plain-value-read PlainJobKeyword.Needs v j i h e =
     let b = bound (needs_of v) (λ x. Ok (record j { needs = Some x })) i e in
     subst HasNames (same-ok (record j { needs = Some b.value }) i b.next)
     (record { name = h.name; stage = h.stage; tags = h.tags; resource_group = h.resource_group; needs = needs-read v b.value b.first; rules = h.rules; variables = h.variables })
-plain-value-read of_job.When v j i h e =
+plain-value-read PlainJobKeyword.When v j i h e =
     let b = bound (when_of v) (λ x. Ok (record j { when = Some x })) i e in
     subst HasNames (same-ok (record j { when = Some b.value }) i b.next) (record { name = h.name; stage = h.stage; tags = h.tags; resource_group = h.resource_group; needs = h.needs; rules = h.rules; variables = h.variables })
-plain-value-read of_job.AllowFailure v j i h e =
+plain-value-read PlainJobKeyword.AllowFailure v j i h e =
     let b = bound (allow_failure_of v) (λ x. Ok (record j { allow_failure = Some x })) i e in
     subst HasNames (same-ok (record j { allow_failure = Some b.value }) i b.next)
     (record { name = h.name; stage = h.stage; tags = h.tags; resource_group = h.resource_group; needs = h.needs; rules = h.rules; variables = h.variables })
-plain-value-read of_job.Retry v j i h e =
+plain-value-read PlainJobKeyword.Retry v j i h e =
     let b = bound (retry_of v) (λ x. Ok (record j { retry = Some x })) i e in
     subst HasNames (same-ok (record j { retry = Some b.value }) i b.next) (record { name = h.name; stage = h.stage; tags = h.tags; resource_group = h.resource_group; needs = h.needs; rules = h.rules; variables = h.variables })
-plain-value-read of_job.Tags v j i h e =
+plain-value-read PlainJobKeyword.Tags v j i h e =
     let b = bound (names_of MAX_TAGS v) (λ x. Ok (record j { tags = x })) i e in
     subst HasNames (same-ok (record j { tags = b.value }) i b.next)
     (record { name = h.name; stage = h.stage; tags = names-read MAX_TAGS v b.value b.first; resource_group = h.resource_group; needs = h.needs; rules = h.rules; variables = h.variables })
-plain-value-read of_job.Timeout v j i h e =
+plain-value-read PlainJobKeyword.Timeout v j i h e =
     let b = bound (timeout_of v) (λ x. Ok (record j { timeout = Some x })) i e in
     subst HasNames (same-ok (record j { timeout = Some b.value }) i b.next) (record { name = h.name; stage = h.stage; tags = h.tags; resource_group = h.resource_group; needs = h.needs; rules = h.rules; variables = h.variables })
-plain-value-read of_job.ResourceGroup v j i h e =
+plain-value-read PlainJobKeyword.ResourceGroup v j i h e =
     let b = bound (name_of v) (λ x. Ok (record j { resource_group = Some x })) i e in
     subst HasNames (same-ok (record j { resource_group = Some b.value }) i b.next)
     (record { name = h.name; stage = h.stage; tags = h.tags; resource_group = name-read v b.value b.first; needs = h.needs; rules = h.rules; variables = h.variables })
-plain-value-read of_job.Interruptible v j i h e =
+plain-value-read PlainJobKeyword.Interruptible v j i h e =
     let b = bound (bool_of v) (λ x. Ok (record j { interruptible = x })) i e in
     subst HasNames (same-ok (record j { interruptible = b.value }) i b.next) (record { name = h.name; stage = h.stage; tags = h.tags; resource_group = h.resource_group; needs = h.needs; rules = h.rules; variables = h.variables })
-plain-value-read of_job.Variables v j i h e =
+plain-value-read PlainJobKeyword.Variables v j i h e =
     let b = bound (variables_of v) (λ x. Ok (record j { variables = x })) i e in
     subst HasNames (same-ok (record j { variables = b.value }) i b.next)
     (record { name = h.name; stage = h.stage; tags = h.tags; resource_group = h.resource_group; needs = h.needs; rules = h.rules; variables = variables-read v b.value b.first })
 
 job-value-read : (p : Patterns) (k : JobKeyword) (v : Value) (j i : Job) → HasNames j → job.job_value k v j p ≡ Ok i → HasNames i
-job-value-read p of_key.Rules v j i h e =
+job-value-read p JobKeyword.Rules v j i h e =
     let b = bound (rules_of v p) (λ x. Ok (record j { rules = Some x })) i e in
     subst HasNames (same-ok (record j { rules = Some b.value }) i b.next)
     (record { name = h.name; stage = h.stage; tags = h.tags; resource_group = h.resource_group; needs = h.needs; rules = rules-read p v b.value b.first; variables = h.variables })
-job-value-read p (of_key.Plain k) v j i h e = plain-value-read k v j i h e
+job-value-read p (JobKeyword.Plain k) v j i h e = plain-value-read k v j i h e
 
 job-entry-read : (p : Patterns) (m : Text × Value) (j i : Job) → HasNames j → job_entry p m j ≡ Ok i → HasNames i
 job-entry-read p m j i h e =
@@ -316,10 +294,10 @@ other-read p None key v f g h e = by-test (is_hidden key) e
     by-test false e = file-job-read p key v f g h e
 
 keyword-read : (k : FileKeyword) (v : Value) (f g : FileSaid) → FileNamed f → keyword_value k v f ≡ Ok g → FileNamed g
-keyword-read of_file.Stages v f g h e =
+keyword-read FileKeyword.Stages v f g h e =
     let b = bound (stages_of v) (λ x. Ok (record f { stages = Some x })) g e in
     subst FileNamed (same-ok (record f { stages = Some b.value }) g b.next) (record { stages = stages-read v b.value b.first; variables = h.variables; jobs = h.jobs; few = h.few })
-keyword-read of_file.Variables v f g h e =
+keyword-read FileKeyword.Variables v f g h e =
     let b = bound (variables_of v) (λ x. Ok (record f { variables = x })) g e in
     subst FileNamed (same-ok (record f { variables = b.value }) g b.next) (record { stages = h.stages; variables = variables-read v b.value b.first; jobs = h.jobs; few = h.few })
 

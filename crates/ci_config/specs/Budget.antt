@@ -1,9 +1,9 @@
 -- What building the patterns of a file costs together, each pattern once.
 use Rattle.std.specs.Prelude.{ℕ, List, [], Option, Some, None, IfSome, sum_by, flat_map}
 use Rattle.std.specs.Global.{Vec}
-use Rattle.ci_expr.specs.Built.{Pattern, patterns_of, same_pattern, cost_of}
+use Rattle.ci_expr.specs.Built.{Pattern}
+use Rattle.ci_expr.specs.Prelude.{patterns_of, same_pattern, cost_of, distinct}
 use Rattle.ci_expr.specs.Built as expr
-use Rattle.ci_expr.specs.Distinct.{distinct}
 use Rattle.ci_expr.specs.declared.expr.Expr.{Expr}
 use Rattle.ci_config.specs.Laws.{Each}
 use Rattle.ci_config.specs.declared.rule.Rule.{Rule}

@@ -1,10 +1,7 @@
 -- What a file configures.
 use Rattle.std.specs.Prelude.{ℕ, Bool, List, Option}
-use Rattle.ci_values.specs.declared.when.When.{When}
-use Rattle.ci_values.specs.declared.when.Retry.{Retry}
-use Rattle.ci_values.specs.declared.when.AllowFailure.{AllowFailure}
-use Rattle.ci_expr.specs.Formula.{Formula}
-use Rattle.ci_values.specs.Layers.{Variables}
+use Rattle.ci_yaml_lines.specs.Prelude.{When, Retry, AllowFailure, Variables}
+use Rattle.ci_expr.specs.Prelude.{Formula}
 use Rattle.ci_config.specs.declared.keyword.RuleWhen.{RuleWhen}
 
 abbrev pub Text : Type 0

@@ -1,10 +1,8 @@
 -- Trees of small files, for worked examples.
 use Rattle.std.specs.Prelude.{ℕ, zero, suc, ◌+◌, pos, negsuc, Bool, true, false, List, [], ◌∷◌, map, replicate, Some, None, Result, Err, is_ok, codes}
 use Rattle.std.specs.Fmt.{signed_decimal}
-use Rattle.ci_values.specs.declared.when.AllowFailure.TheVariants.{ExitCodes}
-use Rattle.ci_values.specs.declared.when.When.TheVariants.{Manual}
-use Rattle.ci_expr.specs.Formula.{present}
-use Rattle.ci_yaml_lines.specs.Tree.{sequence, mapping, Value, null, boolean, number, text, node, Members, no_members, member}
+use Rattle.ci_yaml_lines.specs.Prelude.{ExitCodes, Manual, sequence, mapping, Value, null, boolean, number, text, node, Members, no_members, member}
+use Rattle.ci_expr.specs.Prelude.{present}
 use Rattle.ci_config.specs.Config.{Text, Config}
 use Rattle.ci_config.specs.Expressions.{built}
 use Rattle.ci_config.specs.Fault.{Fault, K2}

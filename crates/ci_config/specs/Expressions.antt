@@ -2,8 +2,7 @@
 use Rattle.std.specs.Prelude.{List, [], ◌∷◌, ℕ, Bool, true, false, not, ◌||◌, ◌==◌, Result, Ok, Err, if◌then◌else◌}
 use Rattle.ci_expr.specs.declared.fault.ExprCode.{ExprCode}
 use Rattle.ci_expr.specs.declared.fault.ExprCode.TheVariants.{X8}
-use Rattle.ci_expr.specs.Formula.{Formula, has_pattern}
-use Rattle.ci_expr.specs.Computed.{expression_of}
+use Rattle.ci_expr.specs.Prelude.{Formula, has_pattern, expression_of}
 use Rattle.ci_config.specs.Fault.{K13, Placed}
 use Rattle.ci_config.specs.Reading.{fails, demand}
 use Rattle.ci_config.specs.Config.{Text}

@@ -1,7 +1,7 @@
 -- What is wrong with a tree.
 use Rattle.std.specs.Prelude.{ℕ, List, ◌++◌, codes}
 use Rattle.ci_expr.specs.declared.fault.ExprCode.{ExprCode}
-use Rattle.ci_expr.specs.Code.{code_of}
+use Rattle.ci_expr.specs.Prelude.{code_of}
 
 pub data Fault : Type 0 where
   K1 : Fault

@@ -2,10 +2,7 @@
 use Rattle.std.specs.Prelude.{ℕ, Bool, false, List, [], ◌∷◌, ◌++◌, length, Option, Some, None, Result, Ok, nat_lt, ◌==◌, not, if◌then◌else◌}
 use Rattle.std.specs.Str.{bytes_eq}
 use Rattle.std.specs.List.{list_any}
-use Rattle.ci_values.specs.Names.{is_name}
-use Rattle.ci_values.specs.Layers.{Variables}
-use Rattle.ci_values.specs.Table.{meaning_of, word_in}
-use Rattle.ci_yaml_lines.specs.Tree.{Value}
+use Rattle.ci_yaml_lines.specs.Prelude.{is_name, Variables, meaning_of, word_in, Value}
 use Rattle.ci_config.specs.Fault.{K2, K7, K11, K16, Placed}
 use Rattle.ci_config.specs.Reading.{◌>>=◌, fails, demand, each, entries}
 use Rattle.ci_config.specs.Config.{Text, Job}
@@ -14,7 +11,6 @@ use Rattle.ci_config.specs.Jobs.{job_from}
 use Rattle.ci_config.specs.Tables.{file_keywords, file_left_out}
 use Rattle.ci_config.specs.Values.{text_of, list_of, map_of, variables_of}
 use Rattle.ci_config.specs.declared.keyword.FileKeyword.{FileKeyword}
-use Rattle.ci_config.specs.declared.keyword.FileKeyword.TheVariants as of_file
 use Rattle.ci_config.specs.declared.limits.TheConstants.{MAX_STAGES, MAX_JOBS}
 
 pub record FileSaid : Type 0 where
@@ -52,8 +48,8 @@ other_value (Some name) key v f p = fails (K2 name)
 other_value None key v f p = if is_hidden key then Ok f else job_value key v f p
 
 abbrev pub keyword_value : FileKeyword → Value → FileSaid → Result FileSaid Placed
-keyword_value of_file.Stages v f = stages_of v >>= λ ts. Ok (record f { stages = Some ts })
-keyword_value of_file.Variables v f = variables_of v >>= λ vs. Ok (record f { variables = vs })
+keyword_value FileKeyword.Stages v f = stages_of v >>= λ ts. Ok (record f { stages = Some ts })
+keyword_value FileKeyword.Variables v f = variables_of v >>= λ vs. Ok (record f { variables = vs })
 
 abbrev pub file_value : Option FileKeyword → Text → Value → FileSaid → Patterns → Result FileSaid Placed
 file_value (Some k) key v f p = keyword_value k v f

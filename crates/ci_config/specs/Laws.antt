@@ -1,12 +1,8 @@
 -- What holds of each tree, and of each configuration.
 use Rattle.std.specs.Prelude.{◌≡◌, ◌≤◌, true, false, List, [], ◌∷◌, length, Ok, IfSome, ⊤}
-use Rattle.ci_values.specs.Names.{is_name}
-use Rattle.ci_values.specs.Layers.{Variables}
-use Rattle.ci_values.specs.VariableName.{is_variable_name}
-use Rattle.ci_yaml_lines.specs.Tree.{Value, null, boolean, number, text, node, Members, no_members, member}
-use Rattle.ci_expr.specs.Formula.{Formula, has_pattern}
+use Rattle.ci_yaml_lines.specs.Prelude.{is_name, Variables, is_variable_name, Value, null, boolean, number, text, node, Members, no_members, member}
+use Rattle.ci_expr.specs.Prelude.{Formula, has_pattern, expression_of}
 use Rattle.ci_config.specs.Config.{Text, Rule, Job, Config}
-use Rattle.ci_expr.specs.Computed.{expression_of}
 use Rattle.ci_config.specs.Files.{is_among}
 use Rattle.ci_config.specs.Meaning.{is_nil}
 use Rattle.ci_config.specs.declared.limits.TheConstants.{MAX_JOBS}

@@ -17,3 +17,4 @@ pub mod View
 pub mod Budget
 pub mod Laws
 pub mod Examples
+pub mod Prelude

@@ -1,7 +1,7 @@
 -- What a tree configures: the entries of the file are read in their order, and then the jobs are judged.
 use Rattle.std.specs.Prelude.{◌≡◌, ℕ, zero, suc, Bool, true, false, List, [], ◌∷◌, ◌++◌, Result, Ok, Err, unwrap_or, not, ◌||◌, filter, codes, if◌then◌else◌}
 use Rattle.std.specs.Str.{bytes_eq}
-use Rattle.ci_yaml_lines.specs.Tree.{Value}
+use Rattle.ci_yaml_lines.specs.Prelude.{Value}
 use Rattle.ci_config.specs.Fault.{Fault, K1, K5, K6, K15, Placed}
 use Rattle.ci_config.specs.Reading.{◌>>=◌, demand, demand_at}
 use Rattle.ci_config.specs.Config.{Text, Job, Config}

@@ -1,21 +1,20 @@
 -- What a job needs.
 use Rattle.std.specs.Prelude.{Bool, false, List, [], Option, Some, None, Result, Ok, if◌then◌else◌}
-use Rattle.ci_yaml_lines.specs.Tree.{Value}
+use Rattle.ci_yaml_lines.specs.Prelude.{Value}
 use Rattle.ci_config.specs.Fault.{K4, Placed}
 use Rattle.ci_config.specs.Reading.{◌>>=◌, or_fault, each, entries, keyword_of}
 use Rattle.ci_config.specs.Config.{Text, Need}
 use Rattle.ci_config.specs.Tables.{need_keywords, need_left_out}
 use Rattle.ci_config.specs.Values.{is_text, bool_of, list_of, map_of, name_of}
 use Rattle.ci_config.specs.declared.keyword.NeedKeyword.{NeedKeyword}
-use Rattle.ci_config.specs.declared.keyword.NeedKeyword.TheVariants as of_need
 
 pub record NeedSaid : Type 0 where
   pub job : Option Text
   pub optional : Bool
 
 abbrev pub need_value : NeedKeyword → Value → NeedSaid → Result NeedSaid Placed
-need_value of_need.Job v n = name_of v >>= λ name. Ok (record n { job = Some name })
-need_value of_need.Optional v n = bool_of v >>= λ b. Ok (record n { optional = b })
+need_value NeedKeyword.Job v n = name_of v >>= λ name. Ok (record n { job = Some name })
+need_value NeedKeyword.Optional v n = bool_of v >>= λ b. Ok (record n { optional = b })
 
 abbrev pub need_entry : Text × Value → NeedSaid → Result NeedSaid Placed
 need_entry m n = keyword_of need_keywords need_left_out m.0 >>= λ k. need_value k m.1 n

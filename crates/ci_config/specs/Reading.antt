@@ -1,6 +1,6 @@
 -- Reading one after the other, up to the first fault.
 use Rattle.std.specs.Prelude.{ℕ, suc, Bool, List, [], ◌∷◌, ◌++◌, length, Option, Some, None, Result, Ok, Err, if◌then◌else◌}
-use Rattle.ci_values.specs.Table.{meaning_of, word_in}
+use Rattle.ci_yaml_lines.specs.Prelude.{meaning_of, word_in}
 use Rattle.ci_config.specs.Fault.{Fault, K2, K3, Placed, placed}
 
 infixl 10 ◌>>=◌

@@ -1,10 +1,7 @@
 -- How often a job is tried again.
 use Rattle.std.specs.Prelude.{ℕ, true, false, List, Option, Some, None, Result, Ok, if◌then◌else◌}
-use Rattle.ci_values.specs.declared.attempts.Cause.TheVariants.{UnknownFailure, ScriptFailure, ApiFailure, StuckOrTimeoutFailure, RunnerSystemFailure, JobExecutionTimeout}
-use Rattle.ci_values.specs.declared.when.Causes.{Causes}
-use Rattle.ci_values.specs.declared.when.Retry.{Retry}
-use Rattle.ci_values.specs.Table.{meaning_of}
-use Rattle.ci_yaml_lines.specs.Tree.{Value}
+use Rattle.ci_yaml_lines.specs.Prelude.{UnknownFailure, ScriptFailure, ApiFailure, StuckOrTimeoutFailure, RunnerSystemFailure, JobExecutionTimeout, Causes, Retry, meaning_of}
+use Rattle.ci_yaml_lines.specs.Prelude.{Value}
 use Rattle.ci_config.specs.Fault.{K9, Placed}
 use Rattle.ci_config.specs.Reading.{◌>>=◌, or_fault, entries, keyword_of}
 use Rattle.ci_config.specs.Config.{Text}
@@ -13,7 +10,6 @@ use Rattle.ci_config.specs.Values.{is_text, is_number, text_of, list_of, map_of,
 use Rattle.ci_config.specs.declared.keyword.CauseWord.{CauseWord}
 use Rattle.ci_config.specs.declared.keyword.CauseWord.TheVariants.{Always, One}
 use Rattle.ci_config.specs.declared.keyword.RetryKeyword.{RetryKeyword}
-use Rattle.ci_config.specs.declared.keyword.RetryKeyword.TheVariants as of_retry
 use Rattle.ci_config.specs.declared.limits.TheConstants.{MAX_RETRIES}
 
 abbrev pub no_causes : Causes
@@ -52,8 +48,8 @@ abbrev pub max_of : Value → Result ℕ Placed
 max_of v = number_up_to MAX_RETRIES K9 v
 
 abbrev pub retry_value : RetryKeyword → Value → RetrySaid → Result RetrySaid Placed
-retry_value of_retry.Max v r = max_of v >>= λ max. Ok (record r { max = Some max })
-retry_value of_retry.When v r = causes_of v >>= λ causes. Ok (record r { causes = causes })
+retry_value RetryKeyword.Max v r = max_of v >>= λ max. Ok (record r { max = Some max })
+retry_value RetryKeyword.When v r = causes_of v >>= λ causes. Ok (record r { causes = causes })
 
 abbrev pub retry_entry : Text × Value → RetrySaid → Result RetrySaid Placed
 retry_entry m r = keyword_of retry_keywords retry_left_out m.0 >>= λ k. retry_value k m.1 r

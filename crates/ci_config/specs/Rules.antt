@@ -1,6 +1,6 @@
 -- The rules of a job.
 use Rattle.std.specs.Prelude.{List, [], length, Some, None, Result, Ok, nat_lt}
-use Rattle.ci_yaml_lines.specs.Tree.{Value}
+use Rattle.ci_yaml_lines.specs.Prelude.{Value}
 use Rattle.ci_config.specs.Fault.{K11, Placed}
 use Rattle.ci_config.specs.Reading.{◌>>=◌, demand, each, entries, keyword_of}
 use Rattle.ci_config.specs.Config.{Text, Rule}
@@ -9,22 +9,20 @@ use Rattle.ci_config.specs.Tables.{rule_keywords, rule_left_out}
 use Rattle.ci_config.specs.Values.{text_of, bool_of, list_of, map_of, variables_of}
 use Rattle.ci_config.specs.Whens.{rule_when_of}
 use Rattle.ci_config.specs.declared.keyword.RuleKeyword.{RuleKeyword}
-use Rattle.ci_config.specs.declared.keyword.RuleKeyword.TheVariants as of_key
 use Rattle.ci_config.specs.declared.keyword.PlainRuleKeyword.{PlainRuleKeyword}
-use Rattle.ci_config.specs.declared.keyword.PlainRuleKeyword.TheVariants as of_rule
 use Rattle.ci_config.specs.declared.limits.TheConstants.{MAX_RULES}
 
 abbrev pub plain_rule_value : PlainRuleKeyword → Value → Rule → Result Rule Placed
-plain_rule_value of_rule.When v r = rule_when_of v >>= λ w. Ok (record r { when = Some w })
-plain_rule_value of_rule.AllowFailure v r = bool_of v >>= λ b. Ok (record r { allow_failure = Some b })
-plain_rule_value of_rule.Variables v r = variables_of v >>= λ vs. Ok (record r { variables = vs })
+plain_rule_value PlainRuleKeyword.When v r = rule_when_of v >>= λ w. Ok (record r { when = Some w })
+plain_rule_value PlainRuleKeyword.AllowFailure v r = bool_of v >>= λ b. Ok (record r { allow_failure = Some b })
+plain_rule_value PlainRuleKeyword.Variables v r = variables_of v >>= λ vs. Ok (record r { variables = vs })
 
 abbrev pub condition_value : Value → Rule → Patterns → Result Rule Placed
 condition_value v r p = text_of v >>= λ bs. condition_of bs p >>= λ f. Ok (record r { condition = Some f })
 
 abbrev pub rule_value : RuleKeyword → Value → Rule → Patterns → Result Rule Placed
-rule_value of_key.If v r p = condition_value v r p
-rule_value (of_key.Plain k) v r p = plain_rule_value k v r
+rule_value RuleKeyword.If v r p = condition_value v r p
+rule_value (RuleKeyword.Plain k) v r p = plain_rule_value k v r
 
 abbrev pub rule_entry : Patterns → Text × Value → Rule → Result Rule Placed
 rule_entry p m r = keyword_of rule_keywords rule_left_out m.0 >>= λ k. rule_value k m.1 r p

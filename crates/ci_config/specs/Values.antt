@@ -1,10 +1,7 @@
 -- Values of one kind; a value of another kind is K4.
 use Rattle.std.specs.Prelude.{ℕ, ℤ, pos, negsuc, Bool, true, false, List, [], ◌∷◌, length, Option, Some, None, Result, Ok, nat_lt, nat_le, if◌then◌else◌}
 use Rattle.std.specs.Fmt.{signed_decimal}
-use Rattle.ci_values.specs.Names.{is_name}
-use Rattle.ci_values.specs.VariableName.{is_variable_name}
-use Rattle.ci_values.specs.Duration.{duration_of}
-use Rattle.ci_yaml_lines.specs.Tree.{sequence, mapping, Value, boolean, number, text, node, Members, no_members, member}
+use Rattle.ci_yaml_lines.specs.Prelude.{is_name, is_variable_name, duration_of, sequence, mapping, Value, boolean, number, text, node, Members, no_members, member}
 use Rattle.ci_config.specs.Fault.{Fault, K4, K10, K11, K12, K16, Placed}
 use Rattle.ci_config.specs.Reading.{◌>>=◌, fails, demand, or_fault, each}
 use Rattle.ci_config.specs.declared.limits.TheConstants.{MAX_VARIABLES}

@@ -2,12 +2,10 @@
 use Rattle.std.specs.Prelude.{ℕ, List, map, option_map}
 use Rattle.std.specs.Borrow.{Bor}
 use Rattle.std.specs.Global.{Vec}
-use Rattle.ci_values.specs.Layers.{text_view}
-use Rattle.ci_yaml_lines.specs.Tree.{Value}
-use Rattle.ci_yaml_lines.specs.TreeView.{bytes_of, value_view, words_of}
+use Rattle.ci_yaml_lines.specs.Prelude.{text_view, Value, bytes_of, value_view, words_of}
 use Rattle.ci_yaml_lines.specs.declared.tree.Text.{Text}
 use Rattle.ci_yaml_lines.specs.declared.tree.Tree.{Tree}
-use Rattle.ci_expr.specs.Built.{formula_of}
+use Rattle.ci_expr.specs.Prelude.{formula_of}
 use Rattle.ci_config.specs.Config as config
 use Rattle.ci_config.specs.declared.value.Variable.{Variable}
 use Rattle.ci_config.specs.declared.need.Need.{Need}

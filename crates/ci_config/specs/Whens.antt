@@ -1,14 +1,11 @@
 -- When a job runs.
 use Rattle.std.specs.Prelude.{Result, Ok, codes}
-use Rattle.ci_values.specs.declared.when.When.{When}
-use Rattle.ci_values.specs.Table.{meaning_of}
-use Rattle.ci_yaml_lines.specs.Tree.{Value}
+use Rattle.ci_yaml_lines.specs.Prelude.{When, meaning_of, Value}
 use Rattle.ci_config.specs.Fault.{K2, K8, K14, Placed}
 use Rattle.ci_config.specs.Reading.{◌>>=◌, fails, or_fault}
 use Rattle.ci_config.specs.Tables.{whens}
 use Rattle.ci_config.specs.Values.{text_of}
 use Rattle.ci_config.specs.declared.keyword.RuleWhen.{RuleWhen}
-use Rattle.ci_config.specs.declared.keyword.RuleWhen.TheVariants as rule_when
 use Rattle.ci_config.specs.declared.keyword.WhenWord.{WhenWord}
 use Rattle.ci_config.specs.declared.keyword.WhenWord.TheVariants.{Runs, Never, Delayed}
 
@@ -26,8 +23,8 @@ when_of v = when_word v >>= in_job
 
 -- in a rule
 abbrev pub in_rule : WhenWord → Result RuleWhen Placed
-in_rule (Runs w) = Ok (rule_when.Runs w)
-in_rule Never = Ok rule_when.Never
+in_rule (Runs w) = Ok (RuleWhen.Runs w)
+in_rule Never = Ok RuleWhen.Never
 in_rule Delayed = fails (K2 (codes "delayed"))
 
 abbrev pub rule_when_of : Value → Result RuleWhen Placed

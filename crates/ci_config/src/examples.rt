@@ -2,7 +2,7 @@
 
 ghost use Rattle.std.specs.Prelude.{◌≡◌, pos, negsuc, true, [], ◌∷◌, length, replicate, Result, Ok, is_ok, codes};
 ghost use Rattle.ci_expr.specs.declared.fault.ExprCode.TheVariants.{X2, X8};
-ghost use Rattle.ci_yaml_lines.specs.Tree.{boolean, number, text};
+ghost use Rattle.ci_yaml_lines.specs.Prelude.{boolean, number, text};
 ghost use Rattle.ci_values.specs.declared.attempts.Cause.TheVariants as cause;
 ghost use Rattle.ci_values.specs.declared.when.When.TheVariants as when;
 ghost use Rattle.ci_config.specs.Examples.{a_map, a_list, plain_job, with_entry, with_patterns, jobs, left_out_of_files, left_out_of_jobs, left_out_of_rules, left_out_of_needs, file_with, job_with, rule_with, need_with, retry_with, meanings, all_left_out, whole_file, whole_config, configures, with_jobs, with_stages, with_variables, with_own_variables, with_rules, with_script, with_tags, with_exit_codes};

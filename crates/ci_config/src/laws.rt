@@ -1,14 +1,10 @@
 //! Laws of the definitions. These functions do nothing: what they ensure is what the checker proves.
 
 ghost use Rattle.std.specs.Prelude.{◌≡◌, ◌≢◌, ◌⊎◌, ℕ, List, [], ◌∷◌, Result, Ok, Err};
-ghost use Rattle.ci_values.specs.Layers.{Variables, value_in};
-ghost use Rattle.ci_values.specs.Table.{meaning_of};
-ghost use Rattle.ci_yaml_lines.specs.Tree.{Value};
+ghost use Rattle.ci_yaml_lines.specs.Prelude.{Variables, value_in, meaning_of, Value};
 ghost use Rattle.ci_expr.specs.declared.fault.ExprCode.TheVariants.{X8};
-ghost use Rattle.ci_expr.specs.Meaning.{IsMeaning};
+ghost use Rattle.ci_expr.specs.Prelude.{IsMeaning, expression_of, value_of};
 ghost use Rattle.ci_config.specs.Config.{Config};
-ghost use Rattle.ci_expr.specs.Computed.{expression_of};
-ghost use Rattle.ci_expr.specs.Truth.{value_of};
 ghost use Rattle.ci_config.specs.Expressions.{Patterns, built, refused};
 ghost use Rattle.ci_config.specs.Fault.{Fault, K13};
 ghost use Rattle.ci_config.specs.Laws.{LacksPatterns, IsWhole, ConfigLacksPatterns};

@@ -1,9 +1,7 @@
 -- What the patterns of a file are counted with.
 use Rattle.std.proofs.Common.{List, [], ◌∷◌, Option, Some, None, IfSome}
 use Rattle.ci_expr.specs.Built as expr
-use Rattle.ci_expr.specs.declared.expr.Expr.{Expr}
-use Rattle.ci_config.specs.Laws.{Each}
-use Rattle.ci_config.specs.Budget.{IsRuleMeasured, IsJobMeasured, IsMeasured}
+use Rattle.ci_config.specs.Prelude.{Expr, Each, IsRuleMeasured, IsJobMeasured, IsMeasured}
 use Rattle.ci_config.specs.declared.file.Config.{Config}
 
 module _ (law : (e : Expr) → expr.IsMeasured e) where

@@ -1,17 +1,9 @@
 -- The condition of a rule: what `ci_expr` answers is what is read.
 use Rattle.std.proofs.Common.{◌≡◌, ℕ, not, List, [], Result, Ok, Err, refl, sym, ◌∙◌, ap, subst}
-use Rattle.ci_expr.specs.declared.expr.Expr.{Expr}
-use Rattle.ci_expr.specs.declared.fault.ExprCode.{ExprCode}
-use Rattle.ci_expr.specs.declared.fault.ExprFault.TheVariants as errors
-use Rattle.ci_expr.specs.Built.{formula_of}
-use Rattle.ci_expr.specs.Formula.{Formula}
-use Rattle.ci_expr.specs.Meaning.{Allows, IsOwn, IsMeaning}
+use Rattle.ci_config.specs.Prelude.{Expr, ExprCode, ExprFault, formula_of, Formula, Allows, IsOwn, IsMeaning, expression_of, built, refused_at, condition_by, condition_of, K13}
+use Rattle.ci_config.specs.Prelude.{Placed, fails}
 use Rattle.ci_config_reader.specs.Answer.{builds_with}
-use Rattle.ci_expr.specs.Computed.{expression_of}
-use Rattle.ci_config.specs.Expressions.{built, refused_at, condition_by, condition_of}
-use Rattle.ci_config.specs.Fault.{K13, Placed}
-use Rattle.ci_config.specs.Reading.{fails}
-use Rattle.ci_config.specs.declared.fault.ConfigCode.TheVariants as code
+use Rattle.ci_config.specs.declared.fault.ConfigCode.{ConfigCode}
 use Rattle.ci_config.specs.declared.fault.ReadFault.TheVariants.{Here}
 use Rattle.ci_config.proofs.Alike.{taken}
 
@@ -35,14 +27,14 @@ condition-found law text e h = ap (condition_by built) (found-by text e (express
 
 -- the fault X.. of an expression
 abbrev Stops : List ℕ → ExprCode → Type 0
-Stops text x = condition_of text (builds_with (Here (code.K13 x))) ≡ fails (K13 x)
+Stops text x = condition_of text (builds_with (Here (ConfigCode.K13 x))) ≡ fails (K13 x)
 
-stops-by : (text : List ℕ) (x : ExprCode) (r : Read) → expression_of text ≡ r → Allows formula_of (Err (errors.Fault x)) r → Stops text x
+stops-by : (text : List ℕ) (x : ExprCode) (r : Read) → expression_of text ≡ r → Allows formula_of (Err (ExprFault.Fault x)) r → Stops text x
 stops-by text x (Ok f) is (eight, has) = subst (Stops text) (sym eight) (ap (condition_by (refused_at [])) is ∙ ap (λ b. taken f (not b)) has)
-stops-by text x (Err y) is h = ap (condition_by (builds_with (Here (code.K13 x)))) is ∙ ap (λ z. failed z) h
+stops-by text x (Err y) is h = ap (condition_by (builds_with (Here (ConfigCode.K13 x)))) is ∙ ap (λ z. failed z) h
   where
     failed : ExprCode → Result Formula Placed
     failed z = fails (K13 z)
 
-pub condition-stops : (text : List ℕ) (x : ExprCode) → Allows formula_of (Err (errors.Fault x)) (expression_of text) → Stops text x
+pub condition-stops : (text : List ℕ) (x : ExprCode) → Allows formula_of (Err (ExprFault.Fault x)) (expression_of text) → Stops text x
 condition-stops text x h = stops-by text x (expression_of text) refl h

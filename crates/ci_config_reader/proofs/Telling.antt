@@ -1,15 +1,12 @@
 -- What is read one after the other, up to the entry that has the fault.
-use Rattle.std.proofs.Common.{◌≡◌, ℕ, suc, ◌+◌, ◌≤◌, Bool, true, false, cond, List, [], ◌∷◌, ◌++◌, length, Result, Ok, Err, refl, sym, ◌∙◌, ap, subst, arith, eqb-true, eq-eqb, length-append}
-use Rattle.std.specs.Prelude.{◌==◌, ⊤}
+use Rattle.std.proofs.Common.{◌≡◌, ℕ, suc, ◌+◌, ◌≤◌, Bool, true, false, cond, List, [], ◌∷◌, ◌++◌, length, Result, Ok, Err, refl, sym, ◌∙◌, ap, subst, arith, eqb-true, eq-eqb}
+use Rattle.std.proofs.Common.{◌==◌}
+use Rattle.std.specs.Prelude.{⊤}
 use Rattle.ci_config.specs.declared.fault.Way.{Way}
-use Rattle.ci_expr.specs.declared.fault.ExprCode.TheVariants.{X8}
+use Rattle.ci_config.specs.Prelude.{X8, Patterns, built, refused, refused_at, below, Fault, K13, Placed, code_view, way_view, GivesAt, IsWithin, ◌>>=◌, fails_at, within}
+use Rattle.ci_config.specs.Prelude.{each, entries}
 use Rattle.ci_config_reader.specs.Answer.{builds_with, builds_for}
-use Rattle.ci_config.specs.Expressions.{Patterns, built, refused, refused_at, below}
-use Rattle.ci_config.specs.Fault.{Fault, K13, Placed}
-use Rattle.ci_config.specs.FaultView.{code_view, way_view, GivesAt, IsWithin}
-use Rattle.ci_config.specs.Reading.{◌>>=◌, fails, fails_at, within, each, entries}
 use Rattle.ci_config.specs.declared.fault.ConfigCode.{ConfigCode}
-use Rattle.ci_config.specs.declared.fault.ConfigCode.TheVariants as code
 use Rattle.ci_config.specs.declared.fault.ReadFault.{ReadFault}
 use Rattle.ci_config.specs.declared.fault.ReadFault.TheVariants.{Memory, Here, Inside}
 use Rattle.ci_config.proofs.Owns.{Own, is_x8}
@@ -43,20 +40,6 @@ pub fails-same : {Y : Type 0} (e : ReadFault) (r s : Result Y Placed) → r ≡ 
 fails-same e r s is h = subst (Fails e) is h
 
 -- ---- what holds no expression
-pub each-fails : {A B : Type 0} (read : List B → A → Result B Placed) (done : List B) (x : A) (rest xs : List A) (whole : Result (List B) Placed) (e d : ReadFault)
-    → xs ≡ x ∷ rest → each read done xs ≡ whole → IsWithin (length done) e d → Fails e (read done x) → Fails d whole
-each-fails read done x rest xs whole e d are is w h =
-    fails-same d (each read done xs) whole is
-    (subst (λ ys. Fails d (each read done ys)) (sym are)
-    (fails-then d (within (length done) (read done x)) (λ y. each read (done ++ y ∷ []) rest) (fails-within (length done) e d (read done x) w h)))
-
-pub entries-fails : {A S : Type 0} (set : ℕ → A → S → Result S Placed) (i : ℕ) (state : S) (x : A) (rest xs : List A) (whole : Result S Placed) (e d : ReadFault)
-    → xs ≡ x ∷ rest → entries set i state xs ≡ whole → IsWithin i e d → Fails e (set i x state) → Fails d whole
-entries-fails set i state x rest xs whole e d are is w h =
-    fails-same d (entries set i state xs) whole is
-    (subst (λ ys. Fails d (entries set i state ys)) (sym are)
-    (fails-then d (within i (set i x state)) (λ s. entries set (suc i) s rest) (fails-within i e d (set i x state) w h)))
-
 pub entries-next : {A S : Type 0} (set : ℕ → A → S → Result S Placed) (i : ℕ) (state : S) (x : A) (rest xs : List A) (next : S) (whole : Result S Placed)
     → xs ≡ x ∷ rest → entries set i state xs ≡ whole → set i x state ≡ Ok next → entries set (i + 1) next rest ≡ whole
 entries-next set i state x rest xs next whole are is h =
@@ -109,11 +92,11 @@ abbrev chosen : List ℕ → Bool → Patterns
 chosen way b = cond b (refused_at way) built
 
 chosen-here : (f : ConfigCode) → builds_with (Here f) ≡ chosen [] (is_x8 (code_view f))
-chosen-here (code.K13 X8) = refl
+chosen-here (ConfigCode.K13 X8) = refl
 chosen-here other = refl
 
 chosen-inside : (f : ConfigCode) (way : Way) → builds_with (Inside f way) ≡ chosen (way_view way) (is_x8 (code_view f))
-chosen-inside (code.K13 X8) way = refl
+chosen-inside (ConfigCode.K13 X8) way = refl
 chosen-inside other way = refl
 
 chosen-below : (i : ℕ) (way : List ℕ) (b : Bool) → below i (chosen (i ∷ way) b) ≡ chosen way b
@@ -151,14 +134,6 @@ step-fails i m k whole (Inside f inner) (Inside g way) leads w h =
 -- ---- one more of a list
 abbrev pub listed : {B V : Type 0} → (Patterns → List B → V → Result B Placed) → List B → List V → Patterns → Result (List B) Placed
 listed read done xs p = each (λ before. read (below (length before) p) before) done xs
-
-pub list-next : {B V : Type 0} (read : Patterns → List B → V → Result B Placed) (done : List B) (x : V) (rest xs : List V) (y : B) (whole : Patterns → Result (List B) Placed)
-    → xs ≡ x ∷ rest → Leads (length done) (listed read done xs) whole → read built done x ≡ Ok y → Leads (length (done ++ y ∷ [])) (listed read (done ++ y ∷ []) rest) whole
-list-next read done x rest xs y whole are leads is =
-    let more = length-append done (y ∷ []) in
-    let n : length (done ++ y ∷ []) ≡ suc (length done) = omega (arith, more) in
-    subst (λ i. Leads i (listed read (done ++ y ∷ []) rest) whole) (sym n)
-    (step-next (length done) (λ p. read p done x) (λ z. listed read (done ++ z ∷ []) rest) whole y (subst (λ ys. Leads (length done) (listed read done ys) whole) are leads) is)
 
 pub list-fails : {B V : Type 0} (read : Patterns → List B → V → Result B Placed) (done : List B) (x : V) (rest xs : List V) (whole : Patterns → Result (List B) Placed) (e d : ReadFault)
     → xs ≡ x ∷ rest → Leads (length done) (listed read done xs) whole → IsWithin (length done) e d → Fails e (read (builds_with e) done x) → Fails d (whole (builds_with d))

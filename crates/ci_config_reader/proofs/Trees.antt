@@ -1,17 +1,12 @@
 -- Trees and lists of the code, step by step.
-use Rattle.std.proofs.Common.{◌≡◌, ℕ, suc, ◌+◌, ◌<◌, length, get_or, drop, drop-cons, arith, List, [], ◌∷◌, ◌++◌, Result, Ok, vec_len, refl, sym, ap, ◌∙◌, map, rules}
-use Rattle.std.proofs.lemmas.List.{map-append, length-map}
+use Rattle.std.proofs.Common.{◌≡◌, ℕ, suc, ◌+◌, ◌<◌, length, get_or, drop, drop-cons, arith, List, [], ◌∷◌, Result, Ok, vec_len, refl, sym, ap, ◌∙◌, map, rules}
+use Rattle.std.proofs.lemmas.List.{length-map}
 use Rattle.std.specs.Global.{Vec}
-use Rattle.ci_yaml_lines.specs.Tree.{sequence, mapping, Value, node}
-use Rattle.ci_yaml_lines.specs.TreeView.{bytes_of, value_view, items_of, items_view}
+use Rattle.ci_config.specs.Prelude.{sequence, mapping, Value, node, bytes_of, value_view, items_of, items_view, Tree, List as ListTree, Map as MapTree, the_lemmas, Placed}
+use Rattle.ci_config.specs.Prelude.{index_of, job_judged, jobs_judged, items_in, pairs_in, list_of, map_of, values_view, pairs_view, job_view}
 use Rattle.ci_yaml_lines.specs.TreeView as view
 use Rattle.ci_yaml_lines.specs.declared.tree.Text.{Text}
-use Rattle.ci_yaml_lines.specs.declared.tree.Tree.{Tree, List as ListTree, Map as MapTree, the_lemmas}
 use Rattle.ci_config.specs.Config as config
-use Rattle.ci_config.specs.Fault.{Placed}
-use Rattle.ci_config.specs.Meaning.{index_of, job_judged, jobs_judged}
-use Rattle.ci_config.specs.Values.{items_in, pairs_in, list_of, map_of}
-use Rattle.ci_config.specs.View.{values_view, pairs_view, job_view}
 use Rattle.ci_config.specs.declared.job.JobSpec.{JobSpec}
 
 -- ---- a list and a map of the code
@@ -52,8 +47,5 @@ pub next-job : (ms : List (config.Text × Value)) (stages : List config.Text) (j
 next-job ms stages js i j lt is next = ap (λ xs. jobs_judged ms stages xs next) (step job_view js i j lt is)
 
 -- ---- a list of the code that grows at its end, and how many it has
-pub map-more : {A B : Type 0} (view : A → B) (xs ys : List A) (x : A) → ys ≡ xs ++ x ∷ [] → map view ys ≡ map view xs ++ view x ∷ []
-map-more view xs ys x e = ap (map view) e ∙ map-append view xs (x ∷ [])
-
 pub count-is : {A B : Type 0} (view : A → B) (v : Vec A) (n : ℕ) → n ≡ vec_len v → length (map view v.items) ≡ n
 count-is view v n e = let h = v.ok.0 in omega (arith, length-map v.items view, e, h)

@@ -1,11 +1,6 @@
 -- What a call answers.
 use Rattle.std.specs.Prelude.{ℕ, List, [], ◌∷◌, Option, Some, None, Result, Err}
-use Rattle.ci_expr.specs.declared.fault.ExprCode.TheVariants.{X8}
-use Rattle.ci_config.specs.Config.{Config}
-use Rattle.ci_config.specs.Fault.{Fault, Placed}
-use Rattle.ci_config.specs.Expressions.{Patterns, built, refused_at}
-use Rattle.ci_config.specs.FaultView.{code_view, way_view}
-use Rattle.ci_config.specs.Reading.{fails_at}
+use Rattle.ci_config.specs.Prelude.{X8, Config, Fault, Placed, Patterns, built, refused_at, code_view, way_view, fails_at}
 use Rattle.ci_config.specs.declared.fault.ConfigCode.{ConfigCode}
 use Rattle.ci_config.specs.declared.fault.ConfigCode.TheVariants.{K13}
 use Rattle.ci_config.specs.declared.fault.ReadFault.{ReadFault}

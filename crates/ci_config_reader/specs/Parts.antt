@@ -1,10 +1,6 @@
 -- What the entries of a map say that were read, without where it lies in memory.
 use Rattle.std.specs.Prelude.{option_map}
-use Rattle.ci_values.specs.Layers.{text_view}
-use Rattle.ci_config.specs.Files.{FileSaid}
-use Rattle.ci_config.specs.Needs.{NeedSaid}
-use Rattle.ci_config.specs.Retries.{RetrySaid}
-use Rattle.ci_config.specs.View.{texts_view, variables_view, jobs_view}
+use Rattle.ci_config.specs.Prelude.{text_view, FileSaid, NeedSaid, RetrySaid, texts_view, variables_view, jobs_view}
 use Rattle.ci_config_reader.specs.declared.retry.RetryParts.{RetryParts}
 use Rattle.ci_config_reader.specs.declared.need.NeedParts.{NeedParts}
 use Rattle.ci_config_reader.specs.declared.file.FileParts.{FileParts}

@@ -1,10 +1,8 @@
 //! Whether a pipeline goes on where a job failed.
 
 ghost use Rattle.std.specs.Prelude.{◌≡◌, ℕ, List, Option, length, option_map};
-ghost use Rattle.ci_yaml_lines.specs.TreeView.{value_view};
-ghost use Rattle.ci_config.specs.FaultView.{GivesAt};
-ghost use Rattle.ci_config.specs.AllowFailures.{exit_code_of, exit_code_in, exit_codes_of, allow_failure_value, allow_failure_entry, allow_failure_said, allow_failure_from, allow_failure_of};
-ghost use Rattle.ci_config.specs.View.{pairs_view, codes_view};
+ghost use Rattle.ci_config.specs.Prelude.{value_view, GivesAt, exit_code_of, exit_code_in, exit_codes_of, allow_failure_value, allow_failure_entry, allow_failure_said};
+ghost use Rattle.ci_config.specs.Prelude.{allow_failure_from, allow_failure_of, pairs_view, codes_view};
 
 use crate::key::keyword_of;
 use crate::tree::{bool_of, is_bool, is_number, list_of, map_of};

@@ -1,9 +1,7 @@
 //! What building the patterns of a file may cost together.
 
 ghost use Rattle.std.specs.Prelude.{◌≡◌, nat_le, IfOk, OnOk, flat_map};
-ghost use Rattle.ci_expr.specs.Built.{patterns_view, same_pattern};
-ghost use Rattle.ci_expr.specs.Distinct.{with_each};
-ghost use Rattle.ci_config.specs.Budget.{rule_patterns, job_patterns, config_cost};
+ghost use Rattle.ci_config.specs.Prelude.{patterns_view, same_pattern, with_each, rule_patterns, job_patterns, config_cost};
 
 use ci_config::{Config, JobSpec, MAX_BUILDING_COST, Rule};
 use ci_expr::{Pattern, left_by_patterns};

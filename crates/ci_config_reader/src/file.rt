@@ -1,18 +1,11 @@
 //! The top level of a file.
 
 ghost use Rattle.std.specs.Prelude.{◌≡◌, ℕ, Result, Ok, [], ◌∷◌, map, option_map, unwrap_or};
-ghost use Rattle.ci_values.specs.Table.{words_view, word_in};
-ghost use Rattle.ci_yaml_lines.specs.TreeView.{value_view};
+ghost use Rattle.ci_config.specs.Prelude.{words_view, word_in, value_view, Config as Meant, Placed, code_view, GivesAt, is_among, stage_in, stages_of, is_hidden, job_of};
+ghost use Rattle.ci_config.specs.Prelude.{job_value, other_value, keyword_value, file_entry, file_from, file_left_out, is_inner, all_stages, default_stages, index_of, job_judged};
+ghost use Rattle.ci_config.specs.Prelude.{jobs_judged, judged, config_of, file_config, pairs_view, texts_view, job_view, config_view, text_view};
 ghost use Rattle.ci_config_reader.specs.Answer.{builds_for, fault_or, fault_of_job_or};
-ghost use Rattle.ci_config.specs.Config.{Config as Meant};
-ghost use Rattle.ci_config.specs.Fault.{Placed};
-ghost use Rattle.ci_config.specs.FaultView.{code_view, GivesAt};
-ghost use Rattle.ci_config.specs.Files.{is_among, stage_in, stages_of, is_hidden, job_of, job_value, other_value, keyword_value, file_entry, file_from};
-ghost use Rattle.ci_config.specs.Tables.{file_left_out};
-ghost use Rattle.ci_config.specs.Meaning.{is_inner, all_stages, default_stages, index_of, job_judged, jobs_judged, judged, config_of, file_config};
-ghost use Rattle.ci_config.specs.View.{pairs_view, texts_view, job_view, config_view};
 ghost use Rattle.ci_config_reader.specs.Parts.{file_parts_view};
-ghost use Rattle.ci_values.specs.Layers.{text_view};
 
 use crate::job::job_from;
 use crate::tree::{list_of, map_of, text_of};

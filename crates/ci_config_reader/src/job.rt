@@ -1,11 +1,9 @@
 //! A job.
 
 ghost use Rattle.std.specs.Prelude.{◌≡◌, Ok};
-ghost use Rattle.ci_yaml_lines.specs.TreeView.{value_view};
+ghost use Rattle.ci_config.specs.Prelude.{value_view, GivesAt, lines_of, script_of, plain_job_value, rules_value, job_entry, blank_job, job_from, pairs_view, texts_view, job_view};
 ghost use Rattle.ci_config_reader.specs.Answer.{builds_for};
-ghost use Rattle.ci_config.specs.FaultView.{GivesAt};
-ghost use Rattle.ci_config.specs.Jobs.{lines_of, script_of, plain_job_value, rules_value, job_value, job_entry, blank_job, job_from};
-ghost use Rattle.ci_config.specs.View.{pairs_view, texts_view, job_view};
+ghost use Rattle.ci_config.specs.Jobs.{job_value};
 
 use crate::allow_failure::allow_failure_of;
 use crate::key::keyword_of;

@@ -1,9 +1,7 @@
 //! The keys of a map.
 
 ghost use Rattle.std.specs.Prelude.{◌≡◌};
-ghost use Rattle.ci_values.specs.Table.{table_view, words_view};
-ghost use Rattle.ci_config.specs.FaultView.{code_view, GivesAt};
-ghost use Rattle.ci_config.specs.Reading.{other_key, keyword_of};
+ghost use Rattle.ci_config.specs.Prelude.{table_view, words_view, code_view, GivesAt, other_key, keyword_of};
 
 use ci_config::{ConfigCode, ReadFault};
 use ci_values::{meaning_of, word_in};

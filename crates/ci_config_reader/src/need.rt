@@ -1,10 +1,7 @@
 //! What a job needs.
 
 ghost use Rattle.std.specs.Prelude.{◌≡◌, []};
-ghost use Rattle.ci_yaml_lines.specs.TreeView.{value_view};
-ghost use Rattle.ci_config.specs.FaultView.{GivesAt};
-ghost use Rattle.ci_config.specs.Needs.{need_value, need_entry, need_said, need_from, need_of, needs_of};
-ghost use Rattle.ci_config.specs.View.{pairs_view, need_view, needs_view};
+ghost use Rattle.ci_config.specs.Prelude.{value_view, GivesAt, need_value, need_entry, need_said, need_from, need_of, needs_of, pairs_view, need_view, needs_view};
 ghost use Rattle.ci_config_reader.specs.Parts.{need_parts_view};
 
 use crate::key::keyword_of;

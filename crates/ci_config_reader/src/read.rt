@@ -1,13 +1,8 @@
 //! Reading a tree.
 
 ghost use Rattle.std.specs.Prelude.{◌≤◌, IfOk};
-ghost use Rattle.ci_yaml_lines.specs.TreeView.{value_view};
+ghost use Rattle.ci_config.specs.Prelude.{value_view, config_cost, IsMeasured, Patterns, Gives, GivesAt, reading, meaning, config_view};
 ghost use Rattle.ci_config_reader.specs.Answer.{builds_for};
-ghost use Rattle.ci_config.specs.Budget.{config_cost, IsMeasured};
-ghost use Rattle.ci_config.specs.Expressions.{Patterns};
-ghost use Rattle.ci_config.specs.FaultView.{Gives, GivesAt};
-ghost use Rattle.ci_config.specs.Meaning.{reading, meaning};
-ghost use Rattle.ci_config.specs.View.{config_view};
 
 use crate::budget::is_within;
 use crate::file::file_config;

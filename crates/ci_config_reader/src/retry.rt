@@ -1,10 +1,8 @@
 //! How often a job is tried again.
 
 ghost use Rattle.std.specs.Prelude.{◌≡◌};
-ghost use Rattle.ci_yaml_lines.specs.TreeView.{value_view};
-ghost use Rattle.ci_config.specs.FaultView.{GivesAt};
-ghost use Rattle.ci_config.specs.Retries.{no_causes, all_causes, with_cause, cause_of, cause_in, causes_of, max_of, retry_value, retry_entry, retry_said, retry_from, retry_of};
-ghost use Rattle.ci_config.specs.View.{pairs_view};
+ghost use Rattle.ci_config.specs.Prelude.{value_view, GivesAt, no_causes, all_causes, with_cause, cause_of, cause_in, causes_of, max_of, retry_value, retry_entry, retry_said};
+ghost use Rattle.ci_config.specs.Prelude.{retry_from, retry_of, pairs_view};
 ghost use Rattle.ci_config_reader.specs.Parts.{retry_parts_view};
 
 use crate::key::keyword_of;

@@ -1,14 +1,9 @@
 //! The rules of a job.
 
 ghost use Rattle.std.specs.Prelude.{◌≡◌, ℕ, List, length};
-ghost use Rattle.ci_yaml_lines.specs.TreeView.{value_view};
-ghost use Rattle.ci_expr.specs.Built.{formula_of};
+ghost use Rattle.ci_config.specs.Prelude.{value_view, formula_of, Rule as Meant, condition_of, GivesAt, plain_rule_value, condition_value, rule_value, rule_entry, rule_from};
+ghost use Rattle.ci_config.specs.Prelude.{rule_of, rules_from, rules_of, values_view, pairs_view, rule_view, rules_view};
 ghost use Rattle.ci_config_reader.specs.Answer.{builds_for};
-ghost use Rattle.ci_config.specs.Config.{Rule as Meant};
-ghost use Rattle.ci_config.specs.Expressions.{condition_of};
-ghost use Rattle.ci_config.specs.FaultView.{GivesAt};
-ghost use Rattle.ci_config.specs.Rules.{plain_rule_value, condition_value, rule_value, rule_entry, rule_from, rule_of, rules_from, rules_of};
-ghost use Rattle.ci_config.specs.View.{values_view, pairs_view, rule_view, rules_view};
 
 use crate::key::keyword_of;
 use crate::tree::{bool_of, list_of, map_of, text_of};

@@ -1,10 +1,8 @@
 //! Trees of one kind.
 
 ghost use Rattle.std.specs.Prelude.{◌≡◌};
-ghost use Rattle.ci_yaml_lines.specs.TreeView.{value_view};
-ghost use Rattle.ci_config.specs.FaultView.{GivesAt};
-ghost use Rattle.ci_config.specs.Values.{is_text, is_bool, is_number, is_map, text_of, bool_of, number_of, list_of, map_of};
-ghost use Rattle.ci_config.specs.View.{values_view, pairs_view};
+ghost use Rattle.ci_config.specs.Prelude.{value_view, GivesAt, is_text, is_bool, is_number, is_map, text_of, bool_of, list_of, map_of, values_view, pairs_view};
+ghost use Rattle.ci_config.specs.Values.{number_of};
 
 use ci_config::{ConfigCode, ReadFault};
 use ci_yaml_lines::tree::{Text, Tree};

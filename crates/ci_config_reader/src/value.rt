@@ -1,12 +1,8 @@
 //! Values: names, numbers, durations, lists of texts, and variables.
 
 ghost use Rattle.std.specs.Prelude.{◌≡◌, ℕ, List, length, Ok, IfOk, IfErr};
-ghost use Rattle.ci_values.specs.Duration.{IsDuration};
-ghost use Rattle.ci_yaml_lines.specs.TreeView.{value_view, words_of};
-ghost use Rattle.ci_config.specs.FaultView.{code_view, Gives, GivesAt};
-ghost use Rattle.ci_config.specs.Meaning.{unplaced};
-ghost use Rattle.ci_config.specs.Values.{plain_of, name_of, up_to, number_up_to, lasting, timeout_of, text_in, name_in, variable_in, texts_of, names_of, variables_of};
-ghost use Rattle.ci_config.specs.View.{texts_view, variable_view, variables_view};
+ghost use Rattle.ci_config.specs.Prelude.{IsDuration, value_view, words_of, code_view, Gives, GivesAt, unplaced, plain_of, name_of, up_to, number_up_to, lasting, timeout_of};
+ghost use Rattle.ci_config.specs.Prelude.{text_in, name_in, variable_in, texts_of, names_of, variables_of, texts_view, variable_view, variables_view};
 ghost use Rattle.ci_config.specs.declared.fault.ConfigCode.TheVariants.{K10};
 ghost use Rattle.ci_config.specs.declared.fault.ConfigFault.TheVariants as faults;
 

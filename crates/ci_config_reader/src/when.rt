@@ -1,9 +1,7 @@
 //! When a job runs.
 
 ghost use Rattle.std.specs.Prelude.{◌≡◌};
-ghost use Rattle.ci_yaml_lines.specs.TreeView.{value_view};
-ghost use Rattle.ci_config.specs.FaultView.{GivesAt};
-ghost use Rattle.ci_config.specs.Whens.{when_word, when_of, rule_when_of};
+ghost use Rattle.ci_config.specs.Prelude.{value_view, GivesAt, when_word, when_of, rule_when_of};
 
 use crate::tree::text_of;
 use ci_config::keyword::{WHENS, WhenWord};

@@ -1,8 +1,7 @@
 //! The statuses with which the jobs of a file begin, from its plan by way of the graph and the board.
 
 ghost use Rattle.std.specs.Prelude.{◌≡◌, ◌<◌};
-ghost use Rattle.ci_graph_layout.specs.Parts.{CanBeGraph};
-ghost use Rattle.ci_graph_layout.specs.Plans.{plan_view};
+ghost use Rattle.ci_graph_layout.specs.Prelude.{CanBeGraph, plan_view};
 
 use ci_board::board::Board;
 use ci_board::facts::Facts;

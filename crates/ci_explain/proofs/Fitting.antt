@@ -1,14 +1,10 @@
 -- Which verdicts fit which bytes.
-use Rattle.std.proofs.Common.{◌≡◌, ◌+◌, ℕ, inl, inr, List, [], ◌++◌, length, take, None, Some, Option, Err, refl, sym, ◌∙◌, ap, subst, arith}
-use Rattle.std.specs.Prelude.{IfSome, option_map}
+use Rattle.std.proofs.Common.{◌≡◌, ◌+◌, ℕ, inl, inr, List, [], ◌++◌, length, take, None, Some, Option, Err, refl, sym, ◌∙◌, ap, subst, arith, IfSome, option_map}
 use Rattle.std.specs.Str.{IsUtf8}
 use Rattle.std.proofs.lemmas.List.{take_all, length-take-le}
 use Rattle.std.proofs.lemmas.Bool.{cases_lt}
-use Rattle.ci_values.specs.declared.limits.TheConstants.{MAX_FILE_BYTES}
-use Rattle.ci_yaml_lines.specs.Tree.{Value}
-use Rattle.ci_yaml_lines.specs.declared.code.Code.TheVariants.{Y1}
-use Rattle.ci_yaml.specs.Document.{HasTree}
-use Rattle.ci_yaml.specs.Stops.{RefusedBy, GivesTree}
+use Rattle.ci_config.specs.Prelude.{MAX_FILE_BYTES, Value, Y1}
+use Rattle.ci_yaml.specs.Prelude.{HasTree, RefusedBy, GivesTree}
 use Rattle.ci_yaml.specs.declared.fault.YamlFault.{YamlFault}
 use Rattle.ci_yaml.specs.declared.fault.YamlFault.TheVariants.{Fault, Memory}
 use Rattle.ci_explain.specs.Verdicts.{Fits, FitsText, IsTooLong}

@@ -1,11 +1,8 @@
 -- What is left of a list or a map without one of its entries.
-use Rattle.std.proofs.Common.{◌≡◌, ◌<◌, ◌≤◌, ℕ, zero, suc, List, [], ◌∷◌, length, get_or, refl, sym, ◌∙◌, ap, arith}
-use Rattle.std.specs.Prelude.{insert, remove, true, false, ◌==◌}
+use Rattle.std.proofs.Common.{◌≡◌, ◌<◌, ◌≤◌, ℕ, zero, suc, List, [], ◌∷◌, length, get_or, refl, sym, ◌∙◌, ap, arith, insert, remove, true, false, ◌==◌}
 use Rattle.std.proofs.lemmas.Bool.{eqb-true}
-use Rattle.ci_yaml_lines.specs.Tree.{member}
-use Rattle.ci_yaml_lines.specs.TreeView.{value_view, items_view, pairs_view, bytes_of}
-use Rattle.ci_yaml_lines.specs.declared.tree.Text.{Text}
-use Rattle.ci_yaml_lines.specs.declared.tree.Tree.{Tree}
+use Rattle.ci_config.specs.Prelude.{member, value_view, items_view, bytes_of, Tree}
+use Rattle.ci_yaml.specs.Prelude.{pairs_view, Text}
 use Rattle.ci_explain.specs.Told.{without, without_in}
 
 -- ---- there is no such entry

@@ -1,21 +1,11 @@
 -- Of the same bytes the same line is printed; and X8 comes of a pattern.
-use Rattle.std.proofs.Common.{◌≡◌, ◌⊎◌, inl, inr, ◌≤◌, ℕ, List, ◌++◌, length, Result, Ok, Err, refl, sym, ◌∙◌, ap, subst, arith}
-use Rattle.std.specs.Prelude.{codes, decimal}
+use Rattle.std.proofs.Common.{◌≡◌, ◌⊎◌, inl, inr, ◌≤◌, ℕ, List, ◌++◌, length, Result, Ok, Err, refl, sym, ◌∙◌, ap, subst, arith, codes, decimal}
 use Rattle.std.specs.Str.{IsUtf8}
-use Rattle.ci_values.specs.declared.limits.TheConstants.{MAX_FILE_BYTES}
-use Rattle.ci_yaml_lines.specs.Tree.{Value}
-use Rattle.ci_yaml_lines.specs.declared.code.Code.{Code}
-use Rattle.ci_yaml.specs.Document.{HasTree, IsFault, too_long}
-use Rattle.ci_yaml.specs.declared.fault.YamlFault.TheVariants as yaml
-use Rattle.ci_expr.specs.declared.fault.ExprCode.TheVariants.{X8}
-use Rattle.ci_config.specs.Config.{Config}
-use Rattle.ci_config.specs.Fault.{Fault, K13, said}
-use Rattle.ci_config.specs.FaultView.{code_view}
-use Rattle.ci_config.specs.Expressions.{built}
-use Rattle.ci_config.specs.Laws.{LacksPatterns}
-use Rattle.ci_config.specs.Meaning.{Means, meaning}
+use Rattle.ci_config.specs.Prelude.{MAX_FILE_BYTES, Value, Code, X8, Config, Fault, K13, said, code_view, built, LacksPatterns, Means, meaning}
+use Rattle.ci_yaml.specs.Prelude.{HasTree, IsFault, too_long}
+use Rattle.ci_yaml.specs.declared.fault.YamlFault.{YamlFault}
 use Rattle.ci_config.specs.declared.fault.ConfigCode.{ConfigCode}
-use Rattle.ci_config.specs.declared.fault.ConfigFault.TheVariants as keywords
+use Rattle.ci_config.specs.declared.fault.ConfigFault.{ConfigFault}
 use Rattle.ci_explain.specs.Verdicts.{Fits, IsTooLong, report_line}
 use Rattle.ci_explain.specs.Laws.{RestsOnMore}
 use Rattle.ci_explain.specs.declared.check.verdict.Verdict.{Verdict}
@@ -45,18 +35,18 @@ line_of (Err f) = codes "refused: " ++ said f ++ codes "\n"
 data Told (bs : List ℕ) (d : Verdict) : Type 0 where
   by_tree : (v : Value) (r : Result Config Fault) → IsUtf8 bs → HasTree bs v → Means v r
       → ((word : List ℕ) → report_line word d ≡ line_of r) → (r ≡ Err (K13 X8) → RestsOnMore d) → Told bs d
-  by_fault : (code : Code) (at : ℕ) → (IsTooLong bs ⊎ IsUtf8 bs) → IsFault bs at code → d ≡ Refused (yaml.Fault code at) → Told bs d
+  by_fault : (code : Code) (at : ℕ) → (IsTooLong bs ⊎ IsUtf8 bs) → IsFault bs at code → d ≡ Refused (YamlFault.Fault code at) → Told bs d
   no_text : length bs ≤ MAX_FILE_BYTES → (IsUtf8 bs → ⊥) → d ≡ NotText → Told bs d
 
 told : (bs : List ℕ) (d : Verdict) → Fits bs d → RestsOnMore d ⊎ Told bs d
 told bs (Configures n) (utf8, (v, has, (c, means, n_is))) =
     inr (by_tree v (Ok c) utf8 has means (λ word. ap (λ k. codes "jobs: " ++ decimal k ++ codes "\n") n_is) (λ e. absurd cc))
-told bs (Refused (yaml.Fault code at)) (inl (long, code_is, at_is)) = inr (by_fault code at (inl long) (too_long long at_is code_is) refl)
-told bs (Refused (yaml.Fault code at)) (inr (utf8, lacks)) = inr (by_fault code at (inr utf8) lacks.0 refl)
-told bs (Refused yaml.Memory) fits = inl tt
-told bs (Misconfigured (keywords.Fault code)) (utf8, (v, has, means)) =
+told bs (Refused (YamlFault.Fault code at)) (inl (long, code_is, at_is)) = inr (by_fault code at (inl long) (too_long long at_is code_is) refl)
+told bs (Refused (YamlFault.Fault code at)) (inr (utf8, lacks)) = inr (by_fault code at (inr utf8) lacks.0 refl)
+told bs (Refused YamlFault.Memory) fits = inl tt
+told bs (Misconfigured (ConfigFault.Fault code)) (utf8, (v, has, means)) =
     inr (by_tree v (Err (code_view code)) utf8 has means (λ word. refl) (λ e. cc))
-told bs (Misconfigured keywords.Memory) fits = inl tt
+told bs (Misconfigured ConfigFault.Memory) fits = inl tt
 told bs NotText (short, none) = inr (no_text short none refl)
 told bs Unread fits = inl tt
 
@@ -80,7 +70,7 @@ module _ (one_tree : OneTree) (not_both : NotBoth) (one_fault : OneFault) (one_a
   both word bs a b (by_fault c i t f e) (by_tree w s u hw ms lb mb) = absurd (not_both bs w i c hw f)
   both word bs a b (by_fault c i t f e) (by_fault d j t' g e') =
       let same = one_fault bs i j c d f g in
-      inl (ap (report_line word) (e ∙ ap (λ k. Refused (yaml.Fault c k)) same.0 ∙ ap (λ k. Refused (yaml.Fault k j)) same.1 ∙ sym e'))
+      inl (ap (report_line word) (e ∙ ap (λ k. Refused (YamlFault.Fault c k)) same.0 ∙ ap (λ k. Refused (YamlFault.Fault k j)) same.1 ∙ sym e'))
   both word bs a b (by_fault c i (inl long) f e) (no_text n none e') = absurd (omega (arith, long, n))
   both word bs a b (by_fault c i (inr u) f e) (no_text n none e') = absurd (none u)
   both word bs a b (no_text n none e) (by_tree w s u hw ms lb mb) = absurd (none u)
@@ -99,7 +89,7 @@ module _ (one_tree : OneTree) (not_both : NotBoth) (one_fault : OneFault) (one_a
 -- ---- a refused pattern
 
 pub no-x8 : OneTree → ((v : Value) (r : Result Config Fault) → LacksPatterns v → Means v r → r ≡ meaning built v) → ((v : Value) → meaning built v ≡ Err (K13 X8) → ⊥)
-    → (bs : List ℕ) (v : Value) (code : ConfigCode) → HasTree bs v → LacksPatterns v → Fits bs (Misconfigured (keywords.Fault code)) → code_view code ≡ K13 X8 → ⊥
+    → (bs : List ℕ) (v : Value) (code : ConfigCode) → HasTree bs v → LacksPatterns v → Fits bs (Misconfigured (ConfigFault.Fault code)) → code_view code ≡ K13 X8 → ⊥
 no-x8 one_tree once never bs v code has lacks (utf8, (w, has_w, means)) is =
     let same : Means v (Err (code_view code)) = subst (λ t. Means t (Err (code_view code))) (sym (one_tree bs v w has has_w)) means in
     never v (sym (once v (Err (code_view code)) lacks same) ∙ ap (λ f. Err f) is)

@@ -1,12 +1,8 @@
 -- Faults in turn: one more, and the last.
-use Rattle.std.proofs.Common.{◌≡◌, ◌≢◌, ℕ, List, [], ◌∷◌, ◌++◌, length, refl, sym, ◌∙◌, ap, subst, arith}
-use Rattle.std.specs.Prelude.{true, false, ◌==◌, Ok, Err}
+use Rattle.std.proofs.Common.{◌≡◌, ◌≢◌, ℕ, List, [], ◌∷◌, ◌++◌, length, refl, sym, ◌∙◌, ap, subst, arith, true, false, ◌==◌, Ok, Err}
 use Rattle.std.proofs.lemmas.Bool.{eqb-true}
 use Rattle.std.proofs.lemmas.List.{append_assoc, map-append}
-use Rattle.ci_yaml_lines.specs.Tree.{Value}
-use Rattle.ci_config.specs.Config.{Config}
-use Rattle.ci_config.specs.Fault.{Placed}
-use Rattle.ci_config.specs.Meaning.{MeansAt}
+use Rattle.ci_config.specs.Prelude.{Value, Config, Placed, MeansAt}
 use Rattle.ci_explain.specs.Told.{InTurn, without, told_view, tolds_view}
 use Rattle.ci_explain.specs.declared.place.Found.{Found}
 

@@ -1,7 +1,6 @@
 -- The text that is printed of faults.
 use Rattle.std.specs.Prelude.{ℕ, Bool, List, [], ◌++◌, length, filter, flat_map, Option, Some, None, not, ◌==◌, if◌then◌else◌, codes, decimal, string_bytes, option_map}
-use Rattle.ci_config.specs.Fault.{said}
-use Rattle.ci_config.specs.FaultView.{code_view}
+use Rattle.ci_config.specs.Prelude.{said, code_view}
 use Rattle.ci_explain.specs.declared.place.Found.{Found}
 
 -- where a fault is: its job and its rule

@@ -1,12 +1,11 @@
 -- What is said of a file, by what `check` would say of it.
 use Rattle.std.specs.Prelude.{◌≡◌, ℕ, List, ◌++◌, Option}
 use Rattle.std.specs.Io.KnownBytes.{Appends}
-use Rattle.ci_yaml_lines.specs.declared.code.Code.{Code}
+use Rattle.ci_config.specs.Prelude.{Code, Value}
 use Rattle.ci_yaml_lines.specs.Least.{number_of}
-use Rattle.ci_yaml_lines.specs.Tree.{Value}
-use Rattle.ci_yaml.specs.Document.{HasTree}
-use Rattle.ci_yaml.specs.declared.fault.YamlFault.TheVariants as yaml
-use Rattle.ci_config.specs.declared.fault.ConfigFault.TheVariants as keywords
+use Rattle.ci_yaml.specs.Prelude.{HasTree}
+use Rattle.ci_yaml.specs.declared.fault.YamlFault.{YamlFault}
+use Rattle.ci_config.specs.declared.fault.ConfigFault.{ConfigFault}
 use Rattle.ci_explain.specs.Verdicts.{Fits, report_line, status}
 use Rattle.ci_explain.specs.declared.check.verdict.Verdict.{Verdict}
 use Rattle.ci_explain.specs.declared.check.verdict.Verdict.TheVariants.{Refused, Misconfigured}
@@ -26,8 +25,8 @@ ReportsOne bytes word code line text = (hint : List ℕ) × (text ≡ yaml_text 
 -- What is said of a verdict on bytes is the line of `check`, where that tells no fault; where it tells one of keywords, all of them; and one of
 -- YAML with a sentence. Behind faults stands how to convert a file of GitLab's.
 abbrev pub IsSaid : List ℕ → List ℕ → Verdict → List ℕ → Type 0
-IsSaid bytes word (Refused (yaml.Fault code line)) text = ReportsOne bytes word code line text
-IsSaid bytes word (Misconfigured (keywords.Fault code)) text = Reports bytes word text
+IsSaid bytes word (Refused (YamlFault.Fault code line)) text = ReportsOne bytes word code line text
+IsSaid bytes word (Misconfigured (ConfigFault.Fault code)) text = Reports bytes word text
 IsSaid bytes word verdict text = text ≡ report_line word verdict
 
 -- What is written of a file is said of a verdict on some bytes, and the exit status is the verdict's.

@@ -1,10 +1,6 @@
 -- What is told of a tree: its faults in turn.
 use Rattle.std.specs.Prelude.{◌≡◌, ◌≢◌, ℕ, List, [], ◌∷◌, map, Option, MatchOption, Ok, Err, zero, suc}
-use Rattle.ci_yaml_lines.specs.Tree.{Value, node, Members, no_members, member}
-use Rattle.ci_config.specs.Config.{Config}
-use Rattle.ci_config.specs.Fault.{Placed, placed}
-use Rattle.ci_config.specs.FaultView.{code_view}
-use Rattle.ci_config.specs.Meaning.{MeansAt}
+use Rattle.ci_config.specs.Prelude.{Value, node, Members, no_members, member, Config, Placed, placed, code_view, MeansAt}
 use Rattle.ci_explain.specs.declared.place.Found.{Found}
 use Rattle.ci_explain.specs.declared.turn.Fault.{Fault}
 

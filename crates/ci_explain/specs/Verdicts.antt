@@ -5,19 +5,10 @@ use Rattle.std.specs.Str.{IsUtf8}
 use Rattle.std.specs.declared.io.Error.{Error}
 use Rattle.std.specs.declared.io.ErrorKind.{ErrorKind}
 use Rattle.std.specs.declared.io.ErrorKind.TheVariants.{OutOfMemory}
-use Rattle.ci_values.specs.declared.limits.TheConstants.{MAX_FILE_BYTES}
-use Rattle.ci_yaml_lines.specs.Tree.{Value}
-use Rattle.ci_yaml_lines.specs.declared.code.Code.{Code}
-use Rattle.ci_yaml_lines.specs.declared.code.Code.TheVariants.{Y1}
-use Rattle.ci_yaml.specs.Document.{HasTree}
-use Rattle.ci_yaml.specs.Stops.{RefusedBy}
-use Rattle.ci_yaml.specs.FaultText.{fault_text}
-use Rattle.ci_yaml.specs.declared.fault.YamlFault.TheVariants as yaml
-use Rattle.ci_config.specs.Config.{Config}
-use Rattle.ci_config.specs.Fault.{said}
-use Rattle.ci_config.specs.FaultView.{code_view}
-use Rattle.ci_config.specs.Meaning.{Means}
-use Rattle.ci_config.specs.declared.fault.ConfigFault.TheVariants as keywords
+use Rattle.ci_config.specs.Prelude.{MAX_FILE_BYTES, Value, Code, Y1, Config, said, code_view, Means}
+use Rattle.ci_yaml.specs.Prelude.{HasTree, RefusedBy, fault_text}
+use Rattle.ci_yaml.specs.declared.fault.YamlFault.{YamlFault}
+use Rattle.ci_config.specs.declared.fault.ConfigFault.{ConfigFault}
 use Rattle.ci_explain.specs.declared.check.verdict.Verdict.{Verdict}
 use Rattle.ci_explain.specs.declared.check.verdict.Verdict.TheVariants.{Configures, Refused, Misconfigured, NotText, Unread}
 
@@ -29,13 +20,13 @@ HasSomeTree bs = (v : Value) × HasTree bs v
 
 -- a text has no tree, for this reason
 abbrev pub LacksTree : List ℕ → Code → ℕ → Type 0
-LacksTree bs code line = RefusedBy bs (yaml.Fault code line) × (HasSomeTree bs → ⊥)
+LacksTree bs code line = RefusedBy bs (YamlFault.Fault code line) × (HasSomeTree bs → ⊥)
 
 -- The verdict fits a tree: so many jobs that it configures, or the first fault of its keywords.
 abbrev pub FitsTree : Value → Verdict → Type 0
 FitsTree v (Configures n) = (c : Config) × Means v (Ok c) × (n ≡ length c.jobs)
-FitsTree v (Misconfigured (keywords.Fault code)) = Means v (Err (code_view code))
-FitsTree v (Misconfigured keywords.Memory) = ⊤
+FitsTree v (Misconfigured (ConfigFault.Fault code)) = Means v (Err (code_view code))
+FitsTree v (Misconfigured ConfigFault.Memory) = ⊤
 FitsTree v other = ⊥
 
 -- the verdict fits the tree that the text has
@@ -44,16 +35,16 @@ FitsItsTree bs verdict = (v : Value) × HasTree bs v × FitsTree v verdict
 
 -- The verdict fits a text, which has a tree or has none.
 abbrev pub FitsText : List ℕ → Verdict → Type 0
-FitsText bs (Refused (yaml.Fault code line)) = LacksTree bs code line
-FitsText bs (Refused yaml.Memory) = ⊤
+FitsText bs (Refused (YamlFault.Fault code line)) = LacksTree bs code line
+FitsText bs (Refused YamlFault.Memory) = ⊤
 FitsText bs other = FitsItsTree bs other
 
 -- The verdict fits the bytes of a file. Bytes that are too many are no text and no tree, whatever they hold; a file may
 -- always fail to be read, and memory may always be refused.
 abbrev pub Fits : List ℕ → Verdict → Type 0
 Fits bs (Configures n) = IsUtf8 bs × FitsText bs (Configures n)
-Fits bs (Refused (yaml.Fault code line)) = (IsTooLong bs × (code ≡ Y1) × (line ≡ 1)) ⊎ (IsUtf8 bs × LacksTree bs code line)
-Fits bs (Refused yaml.Memory) = ⊤
+Fits bs (Refused (YamlFault.Fault code line)) = (IsTooLong bs × (code ≡ Y1) × (line ≡ 1)) ⊎ (IsUtf8 bs × LacksTree bs code line)
+Fits bs (Refused YamlFault.Memory) = ⊤
 Fits bs (Misconfigured fault) = IsUtf8 bs × FitsText bs (Misconfigured fault)
 Fits bs NotText = (length bs ≤ MAX_FILE_BYTES) × (IsUtf8 bs → ⊥)
 Fits bs Unread = ⊤
@@ -61,7 +52,7 @@ Fits bs Unread = ⊤
 -- what is said where a file could not be opened or read: that memory was refused, where that is the fault, and else that it
 -- could not be read
 abbrev pub TellsUnread : ErrorKind → Verdict → Type 0
-TellsUnread kind verdict = (kind ≡ OutOfMemory → verdict ≡ Refused yaml.Memory) × (kind ≢ OutOfMemory → verdict ≡ Unread)
+TellsUnread kind verdict = (kind ≡ OutOfMemory → verdict ≡ Refused YamlFault.Memory) × (kind ≢ OutOfMemory → verdict ≡ Unread)
 
 -- what is said of a file that was opened fits all its bytes, where its reader tells them; of another, why it wasn't opened
 abbrev pub IsSaidOf : {R : Type 0} → (R → Option (List ℕ)) → Result R Error → Verdict → Type 0
@@ -78,9 +69,9 @@ status Unread = 3
 -- the line that is printed of what a word names
 abbrev pub report_line : List ℕ → Verdict → List ℕ
 report_line word (Configures n) = codes "jobs: " ++ decimal n ++ codes "\n"
-report_line word (Refused (yaml.Fault code line)) = codes "refused: " ++ fault_text (yaml.Fault code line) ++ codes "\n"
-report_line word (Refused yaml.Memory) = codes "refused: M16\n"
-report_line word (Misconfigured (keywords.Fault code)) = codes "refused: " ++ said (code_view code) ++ codes "\n"
-report_line word (Misconfigured keywords.Memory) = codes "refused: M16\n"
+report_line word (Refused (YamlFault.Fault code line)) = codes "refused: " ++ fault_text (YamlFault.Fault code line) ++ codes "\n"
+report_line word (Refused YamlFault.Memory) = codes "refused: M16\n"
+report_line word (Misconfigured (ConfigFault.Fault code)) = codes "refused: " ++ said (code_view code) ++ codes "\n"
+report_line word (Misconfigured ConfigFault.Memory) = codes "refused: M16\n"
 report_line word NotText = codes "cannot read " ++ word ++ codes "\n"
 report_line word Unread = codes "cannot read " ++ word ++ codes "\n"

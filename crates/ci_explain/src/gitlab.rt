@@ -1,7 +1,7 @@
 //! What shows that a file was written for GitLab.
 
 ghost use Rattle.std.specs.Prelude.{◌≡◌};
-ghost use Rattle.ci_values.specs.Table.{words_view};
+ghost use Rattle.ci_config.specs.Prelude.{words_view};
 ghost use Rattle.ci_explain.specs.Gitlab.{words, marks, begins_with_one, leads_to_key, shows_here, shows_gitlab};
 
 /// Keywords that `examples/convert.py` writes out. They count where a key may stand.

@@ -1,7 +1,8 @@
 //! A tree in which an entry is left out.
 
 ghost use Rattle.std.specs.Prelude.{◌≡◌, ◌∷◌, IfOk};
-ghost use Rattle.ci_yaml_lines.specs.TreeView.{value_view, items_view, pairs_view};
+ghost use Rattle.ci_config.specs.Prelude.{value_view, items_view};
+ghost use Rattle.ci_yaml.specs.Prelude.{pairs_view};
 ghost use Rattle.ci_explain.specs.Told.{without, without_in};
 
 use ci_yaml::{Text, Tree};

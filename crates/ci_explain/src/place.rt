@@ -1,8 +1,7 @@
 //! Where a fault of a CI file is, and what is said of it.
 
 ghost use Rattle.std.specs.Prelude.{◌≡◌, IfOk};
-ghost use Rattle.ci_config.specs.Fault.{placed};
-ghost use Rattle.ci_config.specs.FaultView.{code_view};
+ghost use Rattle.ci_config.specs.Prelude.{placed, code_view};
 ghost use Rattle.ci_explain.specs.Told.{told_view};
 
 use crate::follow::follows;

@@ -1,7 +1,7 @@
 //! All faults of a CI file.
 
 ghost use Rattle.std.specs.Prelude.{IfOk};
-ghost use Rattle.ci_yaml_lines.specs.TreeView.{value_view};
+ghost use Rattle.ci_config.specs.Prelude.{value_view};
 ghost use Rattle.ci_explain.specs.Told.{InTurn, IsFirst, tolds_view};
 
 use crate::leave::left_out;

@@ -1,21 +1,15 @@
 -- Lists of which each is among others.
-use Rattle.std.proofs.Common.{◌≡◌, ◌≢◌, ℕ, zero, suc, ◌+◌, ◌<◌, Bool, true, false, List, [], ◌∷◌, ◌++◌, length, get_or, take, drop, filter, map, refl, ap, sym, subst, ◌∙◌, ⊎_elim, arith, if◌then◌else◌}
-use Rattle.std.specs.Prelude.{◌||◌, ◌&&◌, flat_map}
+use Rattle.std.proofs.Common.{◌≡◌, ◌≢◌, ℕ, zero, suc, ◌+◌, ◌<◌, Bool, true, false, List, [], ◌∷◌, ◌++◌, length, get_or, take, drop, filter, map, refl, ap, sym, subst, ◌∙◌, ⊎_elim}
+use Rattle.std.proofs.Common.{arith, if◌then◌else◌, ◌||◌, ◌&&◌, flat_map}
 use Rattle.std.specs.Str.{bytes_eq}
 use Rattle.std.proofs.lemmas.Bool.{or_cases, and_parts}
 use Rattle.std.proofs.lemmas.Slice.Eq.{bytes_eq-Decides}
 use Rattle.std.proofs.Math.Bool.{or-true}
 use Rattle.std.proofs.lemmas.List.{at_drop_more, take_more, map-append}
-use Rattle.ci_expr.specs.Answered.{answered, AreAnswered, RefusesLooks}
-use Rattle.ci_expr.specs.Built.{Pattern, Look, same_flag, same_pattern, same_look, look_view, looks_view, looks_in, formula_view}
-use Rattle.ci_expr.specs.Distinct.{is_among, AreAmong, with_one, with_each, distinct}
-use Rattle.ci_expr.specs.declared.answer.Answer.{Answer}
+use Rattle.ci_expr.specs.Prelude.{answered, AreAnswered, RefusesLooks, Look, same_flag, same_pattern, same_look, look_view, looks_view, looks_in, formula_view, is_among, AreAmong}
+use Rattle.ci_expr.specs.Prelude.{with_one, with_each, distinct, Answer, has_pattern, Values, RefusesPattern, ExprFault}
+use Rattle.ci_expr.specs.Built.{Pattern}
 use Rattle.ci_expr.specs.declared.answers.Answers.{Answers}
-use Rattle.ci_expr.specs.Formula.{has_pattern}
-use Rattle.ci_expr.specs.Truth.{Values}
-use Rattle.ci_expr.specs.View.{RefusesPattern}
-use Rattle.ci_expr.specs.declared.fault.ExprFault.{ExprFault}
-use Rattle.ci_expr.specs.declared.fault.ExprFault.TheVariants as errors
 use Rattle.ci_expr.specs.declared.formula.Formula as formulas
 use Rattle.ci_expr.specs.declared.looks.Look as looks
 use Rattle.ci_expr.proofs.Costs.{no-looks}
@@ -166,5 +160,5 @@ refused_by vs f ls true h gathered some = refl
 refused_by vs f ls false h gathered some = absurd (some (gathered ∙ ap (λ ms. distinct same_look ms) (no-looks vs f h)))
 
 pub refused_looks : (vs : Values) (f : formulas.Formula) (e : ExprFault) (ls : List Look) → ls ≡ distinct same_look (looks_in vs f) → RefusesLooks e ls → RefusesPattern e (formula_view f)
-refused_looks vs f errors.Memory ls gathered h = tt
-refused_looks vs f (errors.Fault x) ls gathered h = (h.0, refused_by vs f ls (has_pattern (formula_view f)) refl gathered h.1)
+refused_looks vs f ExprFault.Memory ls gathered h = tt
+refused_looks vs f (ExprFault.Fault x) ls gathered h = (h.0, refused_by vs f ls (has_pattern (formula_view f)) refl gathered h.1)

@@ -1,11 +1,6 @@
 -- What is computed of a text is its one meaning.
 use Rattle.std.proofs.Common.{◌≡◌, ℕ, List, Result, Ok, Err, refl, sym, ◌∙◌, subst, inl}
-use Rattle.ci_expr.specs.declared.fault.ExprCode.{ExprCode}
-use Rattle.ci_expr.specs.Computed.{expression_of}
-use Rattle.ci_expr.specs.Formula.{Formula}
-use Rattle.ci_expr.specs.Meaning.{Tokenizes, Means, IsOwn, IsMeaning, parse_of}
-use Rattle.ci_expr.specs.Reading.{◌>>=◌, tokens_of}
-use Rattle.ci_expr.specs.Token.{Token}
+use Rattle.ci_expr.specs.Prelude.{ExprCode, expression_of, Formula, Tokenizes, Means, IsOwn, IsMeaning, parse_of, ◌>>=◌, tokens_of, Token}
 use Rattle.ci_expr.proofs.OneMeaning.{one-meaning}
 use Rattle.ci_expr.proofs.ParseLemmas.{parse_of-sound, parse_of-own, mean-tokens}
 use Rattle.ci_expr.proofs.TokenLemmas.{tokens_of-sound, tokens-own}

@@ -2,10 +2,8 @@
 use Rattle.std.proofs.Common.{◌≡◌, ◌++◌, false, [], refl, ap₂}
 use Rattle.std.proofs.lemmas.Bool.{or_parts}
 use Rattle.ci_expr.specs.declared.formula.Formula as formulas
-use Rattle.ci_expr.specs.declared.formula.Formula.TheVariants.{Joined', Group', Present, Equal, Found}
-use Rattle.ci_expr.specs.Built.{formula_view, patterns_in, looks_in, AreMeasured}
-use Rattle.ci_expr.specs.Truth.{Values}
-use Rattle.ci_expr.specs.Formula.{has_pattern}
+use Rattle.ci_expr.specs.Prelude.{Joined', Group', Present, Found, formula_view, patterns_in, looks_in, AreMeasured, Values, has_pattern}
+use Rattle.ci_expr.specs.declared.formula.Formula.TheVariants.{Equal}
 
 -- without a pattern there is none
 pub no-patterns : (f : formulas.Formula) → has_pattern (formula_view f) ≡ false → patterns_in f ≡ []

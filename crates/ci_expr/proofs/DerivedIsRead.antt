@@ -1,13 +1,9 @@
 -- What the grammar derives is read from the left, where nothing follows that would make it longer.
 use Rattle.std.proofs.Common.{◌≡◌, ℕ, ◌<◌, ◌≤◌, Bool, true, false, cond, List, [], ◌∷◌, ◌++◌, length, Some, Ok, Err, refl, sym, ◌∙◌, ap, subst, arith, append_assoc}
 use Rattle.std.proofs.lemmas.List.{length-append}
-use Rattle.ci_expr.specs.declared.fault.ExprCode.TheVariants.{X4}
-use Rattle.ci_expr.specs.declared.token.Kind.{Kind}
-use Rattle.ci_expr.specs.declared.token.Kind.TheVariants as kind
-use Rattle.ci_expr.specs.declared.tree.Join.{Join}
-use Rattle.ci_expr.specs.Token.{Token}
-use Rattle.ci_expr.specs.Formula.{Operand, Formula, joined, group, present, equal, found, Level, chain, or, test, part, sign, comparing, matching, IsNamed, IsOperand, IsPatternOf, Derives, single, several, in_group, alone, compared, matched}
-use Rattle.ci_expr.specs.Descent.{Read, behind_byte, pattern_of, compared_by, matched_by, matched_from, sign_by, named_from, descend, reach}
+use Rattle.ci_expr.specs.Prelude.{X4, Kind, Join, Token, Operand, Formula, joined, group, present, equal, found, Level, chain, or, test, part, sign, comparing, matching, IsNamed}
+use Rattle.ci_expr.specs.Prelude.{IsOperand, IsPatternOf, Derives, single, several, in_group, alone, compared, matched, Read, behind_byte, pattern_of, compared_by, matched_by}
+use Rattle.ci_expr.specs.Prelude.{matched_from, sign_by, named_from, descend, reach}
 use Rattle.ci_expr.proofs.KindLemmas.{is_kind-at, behind-at, is_sign, Ends, ends-part, none-behind, sign-ends, no-sign, ends-at}
 use Rattle.ci_expr.proofs.Parts.{behind_byte-at, operand_by-at, pattern_of-at}
 use Rattle.ci_expr.proofs.Descending.{part-alone, joined-reads, group-by, name-by}
@@ -17,10 +13,10 @@ abbrev pub IsRead : Level → List Token → Formula → Type 0
 IsRead l ts f = (rest : List Token) → Ends l rest → (n : ℕ) → reach l (ts ++ rest) ≤ n → descend n l (ts ++ rest) ≡ Ok (f, rest)
 
 sign-none : (name : List ℕ) (t : Token) (ts : List Token) (k : Kind) → is_sign k ≡ false → sign_by name t ts k ≡ Ok (present name, t ∷ ts)
-sign-none name t ts kind.Equal e = absurd cc
-sign-none name t ts kind.Unequal e = absurd cc
-sign-none name t ts kind.Match e = absurd cc
-sign-none name t ts kind.Mismatch e = absurd cc
+sign-none name t ts Kind.Equal e = absurd cc
+sign-none name t ts Kind.Unequal e = absurd cc
+sign-none name t ts Kind.Match e = absurd cc
+sign-none name t ts Kind.Mismatch e = absurd cc
 sign-none name t ts _ e = refl
 
 named-alone : (name : List ℕ) (rest : List Token) → Ends test rest → named_from name rest ≡ Ok (present name, rest)
@@ -38,7 +34,7 @@ read_found negated name rest insensitive source = Ok (found negated name source 
 matched-by : (negated : Bool) (name : List ℕ) (w : Token) (source : List ℕ) (insensitive : Bool) (rest : List Token) → IsPatternOf source insensitive w
     → matched_from negated name (w ∷ rest) ≡ Ok (found negated name source insensitive, rest)
 matched-by negated name w source insensitive rest (is, (body, spelled, source-is)) =
-    ap (λ b. cond b (matched_by negated name rest (pattern_of w.slice)) (Err X4)) (is_kind-at w.kind kind.Pattern is)
+    ap (λ b. cond b (matched_by negated name rest (pattern_of w.slice)) (Err X4)) (is_kind-at w.kind Kind.Pattern is)
     ∙ ap (matched_by negated name rest) (pattern_of-at w body insensitive spelled)
     ∙ ap (read_found negated name rest insensitive) (sym source-is)
 
@@ -62,10 +58,10 @@ joined-read j left t right f g a is b rest h =
     (joined-reads j (left ++ t ∷ behind) (t ∷ behind) behind rest f g (a (t ∷ behind) (ends-at (part j) t behind (sign j) is (sign-ends j))) (behind-at (sign j) t behind is)
     (longer left t behind) (b rest h))
 
-group-read : (l : Token) (inner : List Token) (r : Token) (f : Formula) → l.kind ≡ kind.Left → IsRead or inner f → r.kind ≡ kind.Right → IsRead test (l ∷ (inner ++ r ∷ [])) (group f)
+group-read : (l : Token) (inner : List Token) (r : Token) (f : Formula) → l.kind ≡ Kind.Left → IsRead or inner f → r.kind ≡ Kind.Right → IsRead test (l ∷ (inner ++ r ∷ [])) (group f)
 group-read l inner r f left a right rest h =
     subst (λ us. (n : ℕ) → reach test (l ∷ us) ≤ n → descend n test (l ∷ us) ≡ Ok (group f, rest)) (sym (append_assoc inner (r ∷ []) rest))
-    (group-by (l ∷ (inner ++ r ∷ rest)) (inner ++ r ∷ rest) (r ∷ rest) l f (Some rest) refl left (a (r ∷ rest) (ends-at or r rest kind.Right right refl)) (behind-at kind.Right r rest right))
+    (group-by (l ∷ (inner ++ r ∷ rest)) (inner ++ r ∷ rest) (r ∷ rest) l f (Some rest) refl left (a (r ∷ rest) (ends-at or r rest Kind.Right right refl)) (behind-at Kind.Right r rest right))
 
 pub derived-read : (l : Level) (ts : List Token) (f : Formula) → Derives l ts f → IsRead l ts f
 derived-read _ _ _ (single j ts f d) = λ rest h. part-alone j (ts ++ rest) rest f (derived-read (part j) ts f d rest (ends-part j rest h)) (none-behind j rest h)

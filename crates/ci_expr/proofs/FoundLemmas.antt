@@ -1,8 +1,8 @@
 -- An automaton finds what its pattern's characters say, and why one was not built.
 use denote.Struct.Props.{props}
 use Rattle.std.proofs.Math.Logic.{∥∥₁_elim}
-use Rattle.std.proofs.Common.{◌≡◌, ℕ, ◌+◌, ◌<◌, ◌≤◌, Bool, true, false, option_map, List, All, length, Option, None, Some, IsSomeAnd, is_some, Result, Ok, Err, refl, ap, subst, sym, ◌∙◌, inl, inr}
-use Rattle.std.specs.Prelude.{◌≢◌, IfSome, IfOk, IfErr, chars}
+use Rattle.std.proofs.Common.{◌≡◌, ℕ, ◌+◌, ◌<◌, ◌≤◌, Bool, true, false, option_map, List, All, length, Option, None, Some, IsSomeAnd, is_some, Result, Ok, Err, refl, ap, subst}
+use Rattle.std.proofs.Common.{sym, ◌∙◌, inl, inr, ◌≢◌, IfSome, IfOk, IfErr, chars}
 use Rattle.regex_hir.specs.Re.{Re}
 use Rattle.regex_hir.specs.Find.{find, find_str}
 use Rattle.regex_hir.specs.Meaning.{meaning}
@@ -22,9 +22,7 @@ use Rattle.regex_compile.specs.Implements.{Implements}
 use Rattle.regex_vm.specs.Found.{first_match, span}
 use Rattle.regex_hir.specs.Text.{is_boundary}
 use Rattle.regex.proofs.SearchLemmas.{leftmost_none, leftmost_here, leftmost_retry}
-use Rattle.ci_expr.specs.declared.pattern.Refusal.{Refusal}
-use Rattle.ci_expr.specs.declared.pattern.Refusal.TheVariants as refusals
-use Rattle.ci_expr.specs.Found.{config_of, found_by, is_found_in, IsAutomatonOf, HasTables, IsPattern, IsNoPattern, IsRefused}
+use Rattle.ci_expr.specs.Prelude.{Refusal, config_of, found_by, is_found_in, IsAutomatonOf, HasTables, IsPattern, IsNoPattern, IsRefused}
 
 abbrev Grammar : Type 0
 Grammar = Option (Nested Re × Names)
@@ -81,11 +79,11 @@ module _ (config : Config) (insensitive : Bool) (text : List ℕ) (hir : Hir) (n
   built-pattern (Ok nfa) = read-pattern insensitive text hir names as-read
   built-pattern (Err x) = tt
 
-  pub built-refused : (r : Built) → IfErr r (λ x. x ≢ refusals.Syntax) → IfErr r (IsRefused insensitive (chars text))
+  pub built-refused : (r : Built) → IfErr r (λ x. x ≢ Refusal.Syntax) → IfErr r (IsRefused insensitive (chars text))
   built-refused (Ok nfa) other = tt
-  built-refused (Err refusals.Memory) other = tt
-  built-refused (Err refusals.Syntax) other = absurd (other refl)
-  built-refused (Err refusals.Size) other = read-pattern insensitive text hir names as-read
+  built-refused (Err Refusal.Memory) other = tt
+  built-refused (Err Refusal.Syntax) other = absurd (other refl)
+  built-refused (Err Refusal.Size) other = read-pattern insensitive text hir names as-read
 
 unread : (o : Grammar) (most : ℕ) → o ≡ None → IfSome o (λ (re, found). most < re.depth)
 unread None most e = tt

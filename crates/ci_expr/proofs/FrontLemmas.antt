@@ -1,15 +1,12 @@
 -- A token that begins a text is read, and so is what stops there.
-use Rattle.std.proofs.Common.{◌≡◌, ℕ, suc, ◌+◌, Bool, true, false, cond, List, [], ◌∷◌, ◌++◌, length, take, drop, get_or, Option, Some, None, option_map, Result, Ok, Err, refl, sym, ◌∙◌, ap, subst, arith, append_assoc, ◌⊎◌, inl, inr}
-use Rattle.std.specs.Prelude.{◌==◌, ◌||◌}
+use Rattle.std.proofs.Common.{◌≡◌, ℕ, suc, ◌+◌, Bool, true, false, cond, List, [], ◌∷◌, ◌++◌, length, take, drop, get_or, Option, Some, None, option_map, Result, Ok, Err, refl}
+use Rattle.std.proofs.Common.{sym, ◌∙◌, ap, subst, arith, append_assoc, ◌⊎◌, inl, inr, ◌==◌, ◌||◌}
 use Rattle.std.proofs.lemmas.Bool.{eqb-true}
 use Rattle.std.proofs.lemmas.List.{length-append, take-append-drop}
-use Rattle.ci_expr.specs.declared.fault.ExprCode.{ExprCode}
-use Rattle.ci_expr.specs.declared.fault.ExprCode.TheVariants.{X2, X3}
-use Rattle.ci_expr.specs.declared.token.Kind.{Kind}
-use Rattle.ci_expr.specs.declared.token.Kind.TheVariants.{Name, Text, Null, Equal, Unequal, Match, Mismatch, And, Or, Left, Right, Pattern}
-use Rattle.ci_expr.specs.Lexeme.{word_length, until, escapes, body_length, name_front, text_by, pattern_by, null_front, lexeme}
-use Rattle.ci_expr.specs.Character.{is_blank, starts_word, is_word}
-use Rattle.ci_expr.specs.Token.{AreWord, EndsWord, Lacks, IsMark, IsBody, empty, plain, pair, IsFlag, Spells, StaysOpen, quote, pattern, BeginsNone, Stops, unclosed, wrong}
+use Rattle.ci_expr.specs.Prelude.{ExprCode, X2, X3, Kind, Name, Text, Null, Unequal, Match, Mismatch, And, Or, Left, Right, word_length, until, escapes, body_length, name_front}
+use Rattle.ci_expr.specs.Prelude.{text_by, pattern_by, null_front, lexeme, is_blank, starts_word, is_word, AreWord, EndsWord, Lacks, IsMark, IsBody, empty, plain, pair, IsFlag}
+use Rattle.ci_expr.specs.Prelude.{Spells, StaysOpen, quote, pattern, BeginsNone, Stops, unclosed, wrong}
+use Rattle.ci_expr.specs.declared.token.Kind.TheVariants.{Equal, Pattern}
 use Rattle.ci_expr.proofs.Fronts.{split, start-word, IsEnd, body-is, front-is}
 
 abbrev Front : Type 0
@@ -116,9 +113,6 @@ pattern-by : (body rest : List ℕ) (flag word : Bool) → (get_or rest 0 0 == 1
 pattern-by body rest flag word e f =
     ap (λ (t : Bool). flag_by (length body) t (is_word (get_or (body ++ 47 ∷ rest) (length body + 2) 0))) (ap (λ (n : ℕ). n == 105) (first-after body rest) ∙ e)
     ∙ ap (λ (t : Bool). flag_by (length body) flag t) (ap (λ (n : ℕ). is_word n) (second-after body rest) ∙ f)
-
-slashed : (bs : List ℕ) → lexeme (47 ∷ bs) ≡ pattern_by bs (body_length false bs)
-slashed bs = refl
 
 size-of : (body flag : List ℕ) → length (47 ∷ (body ++ 47 ∷ flag)) ≡ suc (suc (length body + length flag))
 size-of body flag = omega (arith, length-append body (47 ∷ flag))

@@ -1,18 +1,15 @@
 -- What is read at the front is a token.
-use Rattle.std.proofs.Common.{◌≡◌, ℕ, zero, suc, ◌+◌, ◌<◌, ◌≤◌, Bool, true, false, cond, List, [], ◌∷◌, ◌++◌, length, take, drop, get_or, Option, Some, None, option_map, Result, Ok, Err, IfOk, refl, sym, ◌∙◌, ap, subst, arith, append_assoc, take-suc, get_or-drop, take_all, ◌-◌, IsCharBoundary, IsUtf8}
-use Rattle.std.specs.Prelude.{◌==◌, ◌&&◌, ◌||◌, codes, nat_le, unwrap_or}
+use Rattle.std.proofs.Common.{◌≡◌, ℕ, zero, suc, ◌+◌, ◌<◌, ◌≤◌, Bool, true, false, cond, List, [], ◌∷◌, ◌++◌, length, take, drop, get_or, Option, Some, None, option_map, Result}
+use Rattle.std.proofs.Common.{Ok, Err, IfOk, refl, sym, ◌∙◌, ap, subst, arith, append_assoc, take-suc, get_or-drop, take_all, ◌-◌, IsCharBoundary, IsUtf8, ◌==◌, ◌&&◌, ◌||◌, codes}
+use Rattle.std.proofs.Common.{nat_le, unwrap_or}
 use Rattle.std.proofs.lemmas.Bool.{eqb-true}
 use Rattle.std.proofs.lemmas.List.{length-drop}
 use Rattle.std.proofs.lemmas.Str.{IsCharBoundary-after_ascii}
 use Rattle.std.proofs.lemmas.Bool.Decides.{nat_tests}
-use Rattle.ci_expr.specs.declared.fault.ExprCode.{ExprCode}
-use Rattle.ci_expr.specs.declared.fault.ExprFault.{ExprFault}
-use Rattle.ci_expr.specs.View.{Gives}
-use Rattle.ci_expr.specs.declared.token.Kind.{Kind}
-use Rattle.ci_expr.specs.declared.token.Kind.TheVariants.{Name, Text, Null, Equal, Unequal, Match, Mismatch, And, Or, Left, Right, Pattern}
-use Rattle.ci_expr.specs.Lexeme.{word_length, until, body_length, name_front, text_by, pattern_by, null_front, lexeme}
-use Rattle.ci_expr.specs.Character.{starts_word, is_word}
-use Rattle.ci_expr.specs.Token.{AreWord, EndsWord, Lacks, IsMark, IsBody, empty, plain, pair, IsFlag, Spells, IsFront}
+use Rattle.ci_expr.specs.Prelude.{ExprCode, ExprFault, Gives, Kind, Name, Text, Null, Unequal, Match, Mismatch, And, Or, Left, Right, word_length, until, body_length, name_front}
+use Rattle.ci_expr.specs.Prelude.{text_by, pattern_by, null_front, lexeme, starts_word, is_word, AreWord, EndsWord, Lacks, IsMark, IsBody, empty, plain, pair, IsFlag, Spells}
+use Rattle.ci_expr.specs.Prelude.{IsFront}
+use Rattle.ci_expr.specs.declared.token.Kind.TheVariants.{Equal, Pattern}
 
 pub split : {A : Type 0} (t : Bool) (x y r : A) (P : Type 0) → cond t x y ≡ r → (t ≡ true → x ≡ r → P) → (t ≡ false → y ≡ r → P) → P
 split true x y r P h f g = f refl h

@@ -1,14 +1,8 @@
 -- Kinds of tokens, told apart by their places.
-use Rattle.std.proofs.Common.{◌≡◌, ℕ, Bool, true, false, cond, List, [], ◌∷◌, Option, None, Some, refl, sym, ◌∙◌, ap}
-use Rattle.std.specs.Prelude.{◌==◌, ◌&&◌, not}
+use Rattle.std.proofs.Common.{◌≡◌, ℕ, Bool, true, false, cond, List, [], ◌∷◌, Option, None, Some, refl, sym, ◌∙◌, ap, ◌==◌, ◌&&◌, not}
 use Rattle.std.proofs.lemmas.Bool.{eqb-true}
-use Rattle.ci_expr.specs.declared.token.Kind.{Kind}
-use Rattle.ci_expr.specs.declared.token.Kind.TheVariants.{Name, Text, Null, Equal, Unequal, Match, Mismatch, And, Or, Left, Right, Pattern}
-use Rattle.ci_expr.specs.Token.{Token}
-use Rattle.ci_expr.specs.declared.tree.Join.{Join}
-use Rattle.ci_expr.specs.declared.tree.Join.TheVariants as join
-use Rattle.ci_expr.specs.Formula.{Level, chain, test, part, sign}
-use Rattle.ci_expr.specs.Descent.{place, is_kind, behind}
+use Rattle.ci_expr.specs.Prelude.{Kind, Name, Text, Null, Unequal, Match, Mismatch, And, Or, Left, Right, Token, Join, Level, chain, test, part, sign, place, is_kind, behind}
+use Rattle.ci_expr.specs.declared.token.Kind.TheVariants.{Equal, Pattern}
 use Rattle.ci_expr.proofs.Fronts.{split}
 
 abbrev kind_at : ℕ → Kind
@@ -85,8 +79,8 @@ is_sign _ = false
 
 abbrev pub ends : Level → Kind → Bool
 ends test k = not (is_sign k)
-ends (chain join.And) k = not (is_sign k) && not (is_kind k And)
-ends (chain join.Or) k = (not (is_sign k) && not (is_kind k And)) && not (is_kind k Or)
+ends (chain Join.And) k = not (is_sign k) && not (is_kind k And)
+ends (chain Join.Or) k = (not (is_sign k) && not (is_kind k And)) && not (is_kind k Or)
 
 abbrev pub Ends : Level → List Token → Type 0
 Ends l [] = Unit {0}
@@ -105,8 +99,8 @@ not-true true h = absurd cc
 not-true false h = refl
 
 ends-below : (j : Join) (k : Kind) → ends (chain j) k ≡ (ends (part j) k && not (is_kind k (sign j)))
-ends-below join.Or k = refl
-ends-below join.And k = refl
+ends-below Join.Or k = refl
+ends-below Join.And k = refl
 
 pub ends-part : (j : Join) (ts : List Token) → Ends (chain j) ts → Ends (part j) ts
 ends-part j [] h = tt
@@ -119,8 +113,8 @@ none-behind j (t ∷ ts) h =
     sym (ap (λ b. cond b (Some ts) None) other)
 
 pub sign-ends : (j : Join) → ends (part j) (sign j) ≡ true
-sign-ends join.Or = refl
-sign-ends join.And = refl
+sign-ends Join.Or = refl
+sign-ends Join.And = refl
 
 pub no-sign : (t : Token) (ts : List Token) → Ends test (t ∷ ts) → is_sign t.kind ≡ false
 no-sign t ts h = not-true (is_sign t.kind) h

@@ -1,16 +1,9 @@
 -- Tokens, read one after the other.
 use Rattle.std.proofs.Common.{◌≡◌, ℕ, suc, ◌+◌, zero, ◌-◌, ◌<◌, ◌≤◌, true, false, cond, List, [], ◌∷◌, ◌++◌, length, drop, get_or, Result, Ok, Err, refl, sym, ◌∙◌, ap, append_assoc, arith, add-one, drop-cons, drop-drop}
-use Rattle.ci_expr.specs.declared.fault.ExprCode.{ExprCode}
-use Rattle.ci_expr.specs.Character.{is_blank}
-use Rattle.ci_expr.specs.Token.{Token}
-use Rattle.ci_expr.specs.Reading.{◌>>=◌, with_token, token_from, lex, tokens_of}
 use Rattle.std.proofs.Common.{map}
+use Rattle.ci_expr.specs.Prelude.{ExprCode, is_blank, Token, ◌>>=◌, with_token, token_from, lex, tokens_of, X1, ExprFault, Fails, token_view}
 use Rattle.std.proofs.lemmas.Bool.{le-ltb}
-use Rattle.ci_expr.specs.declared.fault.ExprCode.TheVariants.{X1}
-use Rattle.ci_expr.specs.declared.fault.ExprFault.{ExprFault}
-use Rattle.ci_expr.specs.declared.fault.ExprFault.TheVariants as stops
 use Rattle.ci_expr.specs.declared.token.Token as rust
-use Rattle.ci_expr.specs.View.{Fails, token_view}
 
 abbrev pub with_front : List Token → Result (List Token) ExprCode → Result (List Token) ExprCode
 with_front front (Ok ts) = Ok (front ++ ts)
@@ -83,8 +76,8 @@ tokens-small text le = ap (λ t. cond t (Err X1) (lex (length text) 0 text)) (le
 
 pub fails-of : (text : List ℕ) (at : ℕ) (front : List Token) (stop : ExprFault) → length text ≤ 1024 → at < length text → is_blank (get_or text at 0) ≡ false
     → Fails stop (token_from at (drop at text)) → Steps text at front → Fails stop (tokens_of text)
-fails-of text at front stops.Memory small lt e r h = tt
-fails-of text at front (stops.Fault f) small lt e r h = tokens-small text small ∙ steps-fault text at front f lt e r h
+fails-of text at front ExprFault.Memory small lt e r h = tt
+fails-of text at front (ExprFault.Fault f) small lt e r h = tokens-small text small ∙ steps-fault text at front f lt e r h
 
 pub view-push : (xs : List rust.Token) (x : rust.Token) → map token_view (xs ++ x ∷ []) ≡ map token_view xs ++ token_view x ∷ []
 view-push [] x = refl

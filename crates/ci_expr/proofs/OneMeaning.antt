@@ -1,12 +1,6 @@
 -- Each text means one formula or has one fault, a refused pattern aside.
 use Rattle.std.proofs.Common.{◌≡◌, ℕ, List, Result, Ok, Err, refl, sym, ◌∙◌, ap, subst, inl}
-use Rattle.ci_expr.specs.declared.fault.ExprCode.{ExprCode}
-use Rattle.ci_expr.specs.declared.fault.ExprFault.{ExprFault}
-use Rattle.ci_expr.specs.declared.fault.ExprFault.TheVariants as errors
-use Rattle.ci_expr.specs.Token.{Token}
-use Rattle.ci_expr.specs.Formula.{Formula}
-use Rattle.ci_expr.specs.Reading.{tokens_of}
-use Rattle.ci_expr.specs.Meaning.{Tokenizes, Allows, IsOwn, IsMeaning, MeansOneThing, parse_of, IsBuilt}
+use Rattle.ci_expr.specs.Prelude.{ExprCode, ExprFault, Token, Formula, tokens_of, Tokenizes, Allows, IsOwn, IsMeaning, MeansOneThing, parse_of, IsBuilt}
 use Rattle.ci_expr.proofs.TokenLemmas.{tokens_of-sound, tokens_of-only, tokens-own}
 use Rattle.ci_expr.proofs.ParseLemmas.{parse_of-sound, parse_of-own, mean-tokens, parse-only, untokenized-only}
 
@@ -19,7 +13,7 @@ same f = f
 -- what a call with memory answers
 abbrev answer : Parsed → Result Formula ExprFault
 answer (Ok f) = Ok f
-answer (Err x) = Err (errors.Fault x)
+answer (Err x) = Err (ExprFault.Fault x)
 
 abbrev formula : Formula → Parsed
 formula f = Ok f

@@ -1,13 +1,11 @@
 -- Parentheses and patterns that are counted from the left, and what the counts mean.
-use Rattle.std.proofs.Common.{◌≡◌, ℕ, zero, suc, ◌+◌, ◌<◌, ◌≤◌, Bool, true, false, List, [], ◌∷◌, ◌++◌, take, max, refl, sym, ◌∙◌, ap, arith, ◌⊎◌, inl, inr}
-use Rattle.std.specs.Prelude.{◌==◌, ◌&&◌, ◌||◌, not, nat_lt}
+use Rattle.std.proofs.Common.{◌≡◌, ℕ, zero, suc, ◌+◌, ◌<◌, ◌≤◌, Bool, true, false, List, [], ◌∷◌, ◌++◌, take, max, refl, sym, ◌∙◌, ap, arith, ◌⊎◌, inl, inr, ◌==◌, ◌&&◌, ◌||◌, not}
+use Rattle.std.proofs.Common.{nat_lt}
 use Rattle.std.proofs.lemmas.Bool.{eqb-true}
 use Rattle.std.proofs.lemmas.Bool.Decides.{nat_tests}
-use Rattle.ci_expr.specs.declared.token.Kind.{Kind}
-use Rattle.ci_expr.specs.declared.token.Kind.TheVariants as kind
-use Rattle.ci_expr.specs.Token.{Token}
-use Rattle.ci_expr.specs.Faults.{opens, closes, opened, closed, IsBalanced, IsDeep, takes_pattern, ends_in_match, HasStray}
-use Rattle.ci_expr.specs.Order.{open_after, closes_none, balances, deepest, is_pattern, has_stray}
+use Rattle.ci_expr.specs.Prelude.{Kind, Token, opens, closes, opened, IsBalanced, IsDeep, takes_pattern, ends_in_match, HasStray, open_after, closes_none, balances, deepest}
+use Rattle.ci_expr.specs.Prelude.{is_pattern, has_stray}
+use Rattle.ci_expr.specs.Faults.{closed}
 
 -- with so many open before, no beginning closes more than is open, and the whole closes all
 pub record Closes (n : ℕ) (ts : List Token) : Type 0 where
@@ -50,17 +48,17 @@ not-true false h = refl
 
 -- ---- parentheses
 after-token : (n : ℕ) (j : Kind) (ts : List Token) → ClosesBy n j ts → Closes (open_after n j) ts
-after-token n kind.Left ts c = record { low = λ k. omega (arith, c.low k); even = omega (arith, c.even) }
-after-token n kind.Right ts c = let some = c.low 0 in record { low = λ k. omega (arith, some, c.low k); even = omega (arith, some, c.even) }
+after-token n Kind.Left ts c = record { low = λ k. omega (arith, c.low k); even = omega (arith, c.even) }
+after-token n Kind.Right ts c = let some = c.low 0 in record { low = λ k. omega (arith, some, c.low k); even = omega (arith, some, c.even) }
 after-token n _ ts c = record { low = λ k. omega (arith, c.low k); even = omega (arith, c.even) }
 
 before-token : (n : ℕ) (j : Kind) (ts : List Token) → closes_none n j ≡ false → Closes (open_after n j) ts → ClosesBy n j ts
-before-token n kind.Left ts e c = record { low = λ k. omega (arith, c.low k); even = omega (arith, c.even) }
-before-token n kind.Right ts e c = let some = some-open n e in record { low = λ k. omega (arith, some, c.low k); even = omega (arith, some, c.even) }
+before-token n Kind.Left ts e c = record { low = λ k. omega (arith, c.low k); even = omega (arith, c.even) }
+before-token n Kind.Right ts e c = let some = some-open n e in record { low = λ k. omega (arith, some, c.low k); even = omega (arith, some, c.even) }
 before-token n _ ts e c = record { low = λ k. omega (arith, c.low k); even = omega (arith, c.even) }
 
 none-closed : (n : ℕ) (j : Kind) (ts : List Token) → ClosesBy n j ts → closes_none n j ≡ false
-none-closed n kind.Right ts c = none-open n (omega (arith, c.low 0))
+none-closed n Kind.Right ts c = none-open n (omega (arith, c.low 0))
 none-closed n _ ts c = refl
 
 balances-closes : (n : ℕ) (ts : List Token) → balances n ts ≡ true → Closes n ts
@@ -100,14 +98,14 @@ DeepFrom n ts = (k : ℕ) × (closed (take k ts) + 32 < n + opened (take k ts))
 
 deep-after : (n : ℕ) (j : Kind) (ts : List Token) (k : ℕ) → ClosesBy n j ts → closed (take k ts) + 32 < open_after n j + opened (take k ts)
     → closes j + closed (take k ts) + 32 < n + (opens j + opened (take k ts))
-deep-after n kind.Left ts k c lt = omega (arith, lt)
-deep-after n kind.Right ts k c lt = omega (arith, lt, c.low 0)
+deep-after n Kind.Left ts k c lt = omega (arith, lt)
+deep-after n Kind.Right ts k c lt = omega (arith, lt, c.low 0)
 deep-after n _ ts k c lt = omega (arith, lt)
 
 deep-before : (n : ℕ) (j : Kind) (ts : List Token) (k : ℕ) → ClosesBy n j ts → closes j + closed (take k ts) + 32 < n + (opens j + opened (take k ts))
     → closed (take k ts) + 32 < open_after n j + opened (take k ts)
-deep-before n kind.Left ts k c lt = omega (arith, lt)
-deep-before n kind.Right ts k c lt = omega (arith, lt, c.low 0)
+deep-before n Kind.Left ts k c lt = omega (arith, lt)
+deep-before n Kind.Right ts k c lt = omega (arith, lt, c.low 0)
 deep-before n _ ts k c lt = omega (arith, lt)
 
 larger : (m a b : ℕ) → m < max a b → (m < a) ⊎ (m < b)
@@ -160,11 +158,11 @@ pub record StrayIn (after : Bool) (ts : List Token) : Type 0 where
   pub here : Token
   pub behind : List Token
   pub whole : ts ≡ before ++ here ∷ behind
-  pub is : here.kind ≡ kind.Pattern
+  pub is : here.kind ≡ Kind.Pattern
   pub alone : takes-after after before ≡ false
 
-pattern-is : (j : Kind) → is_pattern j ≡ true → j ≡ kind.Pattern
-pattern-is kind.Pattern e = refl
+pattern-is : (j : Kind) → is_pattern j ≡ true → j ≡ Kind.Pattern
+pattern-is Kind.Pattern e = refl
 pattern-is _ e = absurd cc
 
 stray-later : (after : Bool) (t : Token) (ts : List Token) → StrayIn (takes_pattern t.kind) ts → StrayIn after (t ∷ ts)
@@ -191,7 +189,7 @@ or-second : (a b : Bool) → b ≡ true → (a || b) ≡ true
 or-second true b e = refl
 or-second false b e = e
 
-at-stray : (after : Bool) (before : List Token) (t : Token) (behind : List Token) → t.kind ≡ kind.Pattern → takes-after after before ≡ false
+at-stray : (after : Bool) (before : List Token) (t : Token) (behind : List Token) → t.kind ≡ Kind.Pattern → takes-after after before ≡ false
     → has_stray after (before ++ t ∷ behind) ≡ true
 at-stray after [] t behind is alone =
     ap (λ (j : Kind). (is_pattern j && not after) || has_stray (takes_pattern j) behind) is ∙ ap (λ b. not b || has_stray false behind) alone

@@ -1,19 +1,10 @@
 -- What is computed of a list of tokens is what it means, and whatever it means is computed.
-use Rattle.std.proofs.Common.{◌≡◌, ℕ, ◌<◌, ◌≤◌, Bool, true, false, cond, List, [], ◌∷◌, ◌++◌, None, Some, Result, Ok, Err, refl, sym, ◌∙◌, ap, subst, arith, ◌⊎◌, inl, inr}
-use Rattle.std.specs.Prelude.{nat_lt}
+use Rattle.std.proofs.Common.{◌≡◌, ℕ, ◌<◌, ◌≤◌, Bool, true, false, cond, List, [], ◌∷◌, ◌++◌, None, Some, Result, Ok, Err, refl, sym, ◌∙◌, ap, subst, arith, ◌⊎◌, inl, inr, nat_lt}
 use Rattle.std.proofs.lemmas.Bool.{le-ltb}
 use Rattle.std.proofs.lemmas.Bool.Decides.{nat_tests}
-use Rattle.ci_expr.specs.declared.fault.ExprCode.{ExprCode}
-use Rattle.ci_expr.specs.declared.fault.ExprCode.TheVariants.{X1, X2, X3, X4, X5, X6, X7, X8}
-use Rattle.ci_expr.specs.declared.fault.ExprFault.{ExprFault}
-use Rattle.ci_expr.specs.declared.fault.ExprFault.TheVariants as errors
-use Rattle.ci_expr.specs.Token.{Token}
-use Rattle.ci_expr.specs.Formula.{Formula, or, Derives, has_pattern}
-use Rattle.ci_expr.specs.Order.{balances, deepest, has_stray, list_fault}
-use Rattle.ci_expr.specs.Descent.{formula_from}
-use Rattle.ci_expr.specs.View.{Fails}
-use Rattle.ci_expr.specs.Meaning.{Tokenizes, Parses, Means, Answers, Allows, AtMostOneFormula, IsOwn, parse_by, parse_of, IsBuilt}
-use Rattle.ci_expr.specs.Faults.{IsBalanced, HasStray, IsDeep}
+use Rattle.ci_expr.specs.Prelude.{ExprCode, X1, X2, X3, X4, X5, X6, X7, X8, ExprFault, Token, Formula, or, Derives, has_pattern, balances, deepest, has_stray, list_fault}
+use Rattle.ci_expr.specs.Prelude.{formula_from, Fails, Tokenizes, Parses, Means, Allows, AtMostOneFormula, IsOwn, parse_by, parse_of, IsBuilt, IsBalanced, HasStray, IsDeep}
+use Rattle.ci_expr.specs.Meaning.{Answers}
 use Rattle.ci_expr.proofs.OrderLemmas.{balances-is, balanced-balances, deepest-deep, deep-is, stray-is, has-stray}
 use Rattle.ci_expr.proofs.Wholes.{at-most-one, formula_from-derived, formula_from-is, formula_from-only, derived-balanced, derived-tidy}
 
@@ -69,9 +60,6 @@ no-formula ts x e f d = let g = formula_from-derived ts f d in cc
 orderly-sound : (ts : List Token) (r : Parsed) → balances 0 ts ≡ true → has_stray false ts ≡ false → deepest 0 ts ≤ 32 → formula_from ts ≡ r → Counts ts r
 orderly-sound ts (Ok f) e g le h = (le, formula_from-is ts f h)
 orderly-sound ts (Err x) e g le h = subst (λ y. Counts ts (Err y)) (sym (formula_from-only ts x h)) (e, g, le, no-formula ts x h)
-
-fault-sound : (ts : List Token) (x y : ExprCode) → x ≡ y → Counts ts (Err x) → Counts ts (Err y)
-fault-sound ts x y e h = subst (λ z. Counts ts (Err z)) e h
 
 pub counted-sound : (ts : List Token) → Counts ts (parse_of ts)
 counted-sound ts = by-balance (balances 0 ts) refl
@@ -232,7 +220,7 @@ parsed-fault : (x y : ExprCode) → SameParsed (Err x) (Err y) → x ≡ y
 parsed-fault x y e = ap (λ r. parse_fault_or r x) e
 
 -- a text without tokens
-pub untokenized-only : {X : Type 0} (view : X → Formula) (text : List ℕ) (x : ExprCode) → OfToken text (Err x) → (r : Parsed) → Means text r → Allows view (Err (errors.Fault x)) r
+pub untokenized-only : {X : Type 0} (view : X → Formula) (text : List ℕ) (x : ExprCode) → OfToken text (Err x) → (r : Parsed) → Means text r → Allows view (Err (ExprFault.Fault x)) r
 untokenized-only view text x only (Ok f) (ts, t, p) = let e = only (Ok ts) t in absurd cc
 untokenized-only view text x only (Err y) (inl t) = fault-same y x (only (Err y) t)
 untokenized-only view text x only (Err y) (inr (ts, t, p)) = let e = only (Ok ts) t in absurd cc
@@ -253,9 +241,9 @@ refused-parses ts f e has = let p : Parses ts (Ok f) = subst (Parses ts) e (pars
 built-answers : {X : Type 0} (view : X → Formula) (text : List ℕ) (ts : List Token) (r : Result X ExprFault) → Tokenizes text (Ok ts) → IsBuilt view r (parse_of ts)
     → Answers view r (Means text)
 built-answers view text ts (Ok x) t h = mean-tokens text ts t (Ok (view x)) (subst (Parses ts) h (parse_of-sound ts))
-built-answers view text ts (Err errors.Memory) t h = tt
-built-answers view text ts (Err (errors.Fault x)) t (inl e) = mean-tokens text ts t (Err x) (subst (Parses ts) e (parse_of-sound ts))
-built-answers view text ts (Err (errors.Fault x)) t (inr (is, (f, e, has))) =
+built-answers view text ts (Err ExprFault.Memory) t h = tt
+built-answers view text ts (Err (ExprFault.Fault x)) t (inl e) = mean-tokens text ts t (Err x) (subst (Parses ts) e (parse_of-sound ts))
+built-answers view text ts (Err (ExprFault.Fault x)) t (inr (is, (f, e, has))) =
     subst (λ y. Means text (Err y)) (sym is) (mean-tokens text ts t (Err X8) (refused-parses ts f e has))
 
 allowed : {X : Type 0} (view : X → Formula) (b : Result X ExprFault) (computed r : Parsed) → IsBuilt view b computed → (computed ≡ r) ⊎ Refused computed r → Allows view b r
@@ -264,15 +252,15 @@ allowed view (Ok x) computed (Ok f) h (inr (bad, w)) = absurd cc
 allowed view (Ok x) computed (Err y) h (inl e) = absurd cc
 allowed view (Ok x) computed (Err y) h (inr (is, (f, e, has))) =
     (parsed-fault y X8 is, subst (λ g. has_pattern g ≡ true) (parsed-same f (view x) (sym e ∙ h)) has)
-allowed view (Err errors.Memory) computed r h w = tt
-allowed view (Err (errors.Fault x)) computed (Ok f) (inl g) (inl e) = absurd cc
-allowed view (Err (errors.Fault x)) computed (Ok f) (inl g) (inr (bad, w)) = absurd cc
-allowed view (Err (errors.Fault x)) computed (Ok f) (inr (is, (k, g, has))) (inl e) = (is, subst (λ j. has_pattern j ≡ true) (parsed-same k f (sym g ∙ e)) has)
-allowed view (Err (errors.Fault x)) computed (Ok f) (inr w) (inr (bad, v)) = absurd cc
-allowed view (Err (errors.Fault x)) computed (Err y) (inl g) (inl e) = parsed-fault y x (sym e ∙ g)
-allowed view (Err (errors.Fault x)) computed (Err y) (inl g) (inr (is, (f, e, has))) = absurd cc
-allowed view (Err (errors.Fault x)) computed (Err y) (inr (is, (f, g, has))) (inl e) = absurd cc
-allowed view (Err (errors.Fault x)) computed (Err y) (inr (is, w)) (inr (also, v)) = parsed-fault y X8 also ∙ sym is
+allowed view (Err ExprFault.Memory) computed r h w = tt
+allowed view (Err (ExprFault.Fault x)) computed (Ok f) (inl g) (inl e) = absurd cc
+allowed view (Err (ExprFault.Fault x)) computed (Ok f) (inl g) (inr (bad, w)) = absurd cc
+allowed view (Err (ExprFault.Fault x)) computed (Ok f) (inr (is, (k, g, has))) (inl e) = (is, subst (λ j. has_pattern j ≡ true) (parsed-same k f (sym g ∙ e)) has)
+allowed view (Err (ExprFault.Fault x)) computed (Ok f) (inr w) (inr (bad, v)) = absurd cc
+allowed view (Err (ExprFault.Fault x)) computed (Err y) (inl g) (inl e) = parsed-fault y x (sym e ∙ g)
+allowed view (Err (ExprFault.Fault x)) computed (Err y) (inl g) (inr (is, (f, e, has))) = absurd cc
+allowed view (Err (ExprFault.Fault x)) computed (Err y) (inr (is, (f, g, has))) (inl e) = absurd cc
+allowed view (Err (ExprFault.Fault x)) computed (Err y) (inr (is, w)) (inr (also, v)) = parsed-fault y X8 also ∙ sym is
 
 pub parse-answer : {X : Type 0} (view : X → Formula) (text : List ℕ) (ts : List Token) (r : Result X ExprFault) → Tokenizes text (Ok ts) → IsBuilt view r (parse_of ts)
     → Answers view r (Means text)
@@ -287,5 +275,5 @@ one-formula ts f g a b = at-most-one ts f g a b
 
 pub untokenized-error : {X : Type 0} (view : X → Formula) (text : List ℕ) (e : ExprFault) → ((s : Tokenized) → Tokenizes text s → Fails e s) → (r : Parsed) → Means text r
     → Allows view (Err e) r
-untokenized-error view text errors.Memory only r m = tt
-untokenized-error view text (errors.Fault x) only r m = untokenized-only view text x only r m
+untokenized-error view text ExprFault.Memory only r m = tt
+untokenized-error view text (ExprFault.Fault x) only r m = untokenized-only view text x only r m

@@ -1,15 +1,11 @@
 -- What a token says, and how it is spelled.
-use Rattle.std.proofs.Common.{◌≡◌, ℕ, zero, suc, ◌-◌, ◌<◌, Bool, true, false, cond, List, [], ◌∷◌, ◌++◌, length, take, get_or, Option, None, Some, option_map, refl, sym, ◌∙◌, ap, subst, arith, take-suc, take_all}
-use Rattle.std.specs.Prelude.{◌==◌, ◌||◌, chars}
-use Rattle.std.specs.Option.{option_and_then}
+use Rattle.std.proofs.Common.{◌≡◌, ℕ, zero, suc, ◌-◌, ◌<◌, Bool, true, false, cond, List, [], ◌∷◌, ◌++◌, length, take, get_or, Option, None, Some, option_map, refl, sym, ◌∙◌, ap}
+use Rattle.std.proofs.Common.{subst, arith, take-suc, take_all, ◌==◌, ◌||◌, chars, option_and_then}
 use Rattle.std.proofs.lemmas.Bool.{eqb-true}
 use Rattle.std.proofs.lemmas.List.{length-append}
-use Rattle.ci_expr.specs.declared.token.Kind.{Kind}
-use Rattle.ci_expr.specs.declared.token.Kind.TheVariants.{Name, Text, Null, Pattern}
-use Rattle.ci_expr.specs.Token.{Token, IsMark}
-use Rattle.ci_expr.specs.Formula.{Operand, null, text, variable, IsOperand, IsPatternOf, flag_of}
-use Rattle.ci_expr.specs.Source.{source_of}
-use Rattle.ci_expr.specs.Descent.{behind_byte, before_byte, text_of, flagged, body_by, body_of, pattern_of, operand_by}
+use Rattle.ci_expr.specs.Prelude.{Kind, Name, Text, Null, Token, IsMark, Operand, null, text, variable, IsOperand, IsPatternOf, flag_of, source_of, behind_byte, before_byte}
+use Rattle.ci_expr.specs.Prelude.{text_of, flagged, body_by, body_of, pattern_of, operand_by}
+use Rattle.ci_expr.specs.declared.token.Kind.TheVariants.{Pattern}
 use Rattle.ci_expr.proofs.Fronts.{split, within}
 
 abbrev Same : {A : Type 0} → Option A → A → Type 0

@@ -1,14 +1,9 @@
 -- What is read from the left is what the grammar derives, and nothing else.
-use Rattle.std.proofs.Common.{◌≡◌, ℕ, zero, suc, Bool, true, false, List, [], ◌∷◌, ◌++◌, Option, None, Some, Ok, Err, refl, sym, ◌∙◌, ap, subst, arith, append_assoc}
-use Rattle.std.specs.Prelude.{chars}
-use Rattle.ci_expr.specs.declared.token.Kind.{Kind}
-use Rattle.ci_expr.specs.declared.token.Kind.TheVariants as kind
-use Rattle.ci_expr.specs.declared.tree.Join.{Join}
-use Rattle.ci_expr.specs.Token.{Token}
-use Rattle.ci_expr.specs.Reading.{◌>>=◌}
-use Rattle.ci_expr.specs.Formula.{Operand, Formula, joined, group, present, equal, found, Level, chain, or, test, part, sign, comparing, matching, IsNamed, Derives, single, several, in_group, alone, compared, matched}
-use Rattle.ci_expr.specs.Source.{source_of}
-use Rattle.ci_expr.specs.Descent.{Read, behind, behind_byte, is_kind, operand_by, pattern_of, compared_by, compared_from, matched_by, matched_from, sign_by, named_from, variable_by, closed, test_by, joined_by, descend}
+use Rattle.std.proofs.Common.{◌≡◌, ℕ, zero, suc, Bool, true, false, List, [], ◌∷◌, ◌++◌, Option, None, Some, Ok, Err, refl, sym, ◌∙◌, ap, subst, arith, append_assoc, chars}
+use Rattle.ci_expr.specs.Prelude.{Kind, Join, Token, ◌>>=◌, Operand, Formula, joined, group, present, equal, found, Level, chain, or, test, part, sign, comparing, matching}
+use Rattle.ci_expr.specs.Prelude.{IsNamed, Derives, single, several, in_group, alone, compared, matched, source_of, Read, behind, behind_byte, is_kind, operand_by, pattern_of}
+use Rattle.ci_expr.specs.Prelude.{compared_by, compared_from, matched_by, matched_from, sign_by, named_from, variable_by, test_by, joined_by, descend}
+use Rattle.ci_expr.specs.Descent.{closed}
 use Rattle.ci_expr.proofs.Fronts.{split}
 use Rattle.ci_expr.proofs.KindLemmas.{is_kind-true, Headed, behind-is}
 use Rattle.ci_expr.proofs.Parts.{behind_byte-is, operand_by-is, pattern_of-is}
@@ -79,7 +74,7 @@ compared-in : (v c : Token) (ts : List Token) (negated : Bool) (name : List ℕ)
 compared-in v c [] negated name x named sign g = absurd cc
 compared-in v c (w ∷ ts) negated name x named sign g = compared-sound v c w ts negated name x named sign (operand_by w.slice w.kind) refl g
 
-matched-sound : (v c w : Token) (ts : List Token) (negated : Bool) (name : List ℕ) (x : Formula × List Token) → IsNamed name v → c.kind ≡ matching negated → w.kind ≡ kind.Pattern
+matched-sound : (v c w : Token) (ts : List Token) (negated : Bool) (name : List ℕ) (x : Formula × List Token) → IsNamed name v → c.kind ≡ matching negated → w.kind ≡ Kind.Pattern
     → (o : Option (List ℕ × Bool)) → pattern_of w.slice ≡ o → SameRead (matched_by negated name ts o) x → Cut test (v ∷ c ∷ w ∷ ts) x.0 x.1
 matched-sound v c w ts negated name x named sign pattern None is g = absurd cc
 matched-sound v c w ts negated name x named sign pattern (Some p) is g = cut-same test (v ∷ c ∷ w ∷ ts) (pair (found negated name (source_of (chars p.0)) p.1) ts) x g
@@ -88,8 +83,8 @@ matched-sound v c w ts negated name x named sign pattern (Some p) is g = cut-sam
 matched-in : (v c : Token) (ts : List Token) (negated : Bool) (name : List ℕ) (x : Formula × List Token) → IsNamed name v → c.kind ≡ matching negated
     → SameRead (matched_from negated name ts) x → Cut test (v ∷ c ∷ ts) x.0 x.1
 matched-in v c [] negated name x named sign g = absurd cc
-matched-in v c (w ∷ ts) negated name x named sign g = split (is_kind w.kind kind.Pattern) _ _ _ _ g
-    (λ is h. matched-sound v c w ts negated name x named sign (is_kind-true w.kind kind.Pattern is) (pattern_of w.slice) refl h)
+matched-in v c (w ∷ ts) negated name x named sign g = split (is_kind w.kind Kind.Pattern) _ _ _ _ g
+    (λ is h. matched-sound v c w ts negated name x named sign (is_kind-true w.kind Kind.Pattern is) (pattern_of w.slice) refl h)
     (λ is h. absurd cc)
 
 alone-sound : (v : Token) (ts : List Token) (name : List ℕ) (x : Formula × List Token) → IsNamed name v → SameRead (Ok (present name, ts)) x → Cut test (v ∷ ts) x.0 x.1
@@ -97,41 +92,41 @@ alone-sound v ts name x named g = cut-same test (v ∷ ts) (pair (present name) 
 
 sign-sound : (v c : Token) (ts : List Token) (name : List ℕ) (x : Formula × List Token) → IsNamed name v → (k : Kind) → c.kind ≡ k → SameRead (sign_by name c ts k) x
     → Cut test (v ∷ c ∷ ts) x.0 x.1
-sign-sound v c ts name x named kind.Equal is g = compared-in v c ts false name x named is g
-sign-sound v c ts name x named kind.Unequal is g = compared-in v c ts true name x named is g
-sign-sound v c ts name x named kind.Match is g = matched-in v c ts false name x named is g
-sign-sound v c ts name x named kind.Mismatch is g = matched-in v c ts true name x named is g
+sign-sound v c ts name x named Kind.Equal is g = compared-in v c ts false name x named is g
+sign-sound v c ts name x named Kind.Unequal is g = compared-in v c ts true name x named is g
+sign-sound v c ts name x named Kind.Match is g = matched-in v c ts false name x named is g
+sign-sound v c ts name x named Kind.Mismatch is g = matched-in v c ts true name x named is g
 sign-sound v c ts name x named _ is g = alone-sound v (c ∷ ts) name x named g
 
 named-sound : (v : Token) (ts : List Token) (name : List ℕ) (x : Formula × List Token) → IsNamed name v → SameRead (named_from name ts) x → Cut test (v ∷ ts) x.0 x.1
 named-sound v [] name x named g = alone-sound v [] name x named g
 named-sound v (c ∷ ts) name x named g = sign-sound v c ts name x named c.kind refl g
 
-variable-sound : (v : Token) (ts : List Token) (x : Formula × List Token) → v.kind ≡ kind.Name → (o : Option (List ℕ)) → behind_byte 36 v.slice ≡ o → SameRead (variable_by ts o) x
+variable-sound : (v : Token) (ts : List Token) (x : Formula × List Token) → v.kind ≡ Kind.Name → (o : Option (List ℕ)) → behind_byte 36 v.slice ≡ o → SameRead (variable_by ts o) x
     → Cut test (v ∷ ts) x.0 x.1
 variable-sound v ts x is None e g = absurd cc
 variable-sound v ts x is (Some name) e g = named-sound v ts name x (is, behind_byte-is 36 v.slice name (omega arith) e) g
 
-closed-sound : (t : Token) (ts mid : List Token) (f : Formula) (x : Formula × List Token) → t.kind ≡ kind.Left → Cut or ts f mid → (o : Option (List Token)) → behind kind.Right mid ≡ o
+closed-sound : (t : Token) (ts mid : List Token) (f : Formula) (x : Formula × List Token) → t.kind ≡ Kind.Left → Cut or ts f mid → (o : Option (List Token)) → behind Kind.Right mid ≡ o
     → SameRead (closed f o) x → Cut test (t ∷ ts) x.0 x.1
 closed-sound t ts mid f x is a None e g = absurd cc
 closed-sound t ts mid f x is a (Some rest) e g =
-    let h : Headed kind.Right mid rest = behind-is kind.Right mid rest e in
+    let h : Headed Kind.Right mid rest = behind-is Kind.Right mid rest e in
     cut-same test (t ∷ ts) (pair (group f) rest) x g (record {
       front = t ∷ (a.front ++ h.head ∷ []);
       whole = ap (λ us. t ∷ us) (pair-by a.front [] rest h.head ts mid a.whole h.whole);
       derives = in_group t a.front h.head _ f is a.derives h.is refl;
     })
 
-group-sound : (n : ℕ) (t : Token) (ts : List Token) (x : Formula × List Token) → Sounds n → t.kind ≡ kind.Left → (r : Read) → descend n or ts ≡ r
-    → SameRead (r >>= λ y. closed y.0 (behind kind.Right y.1)) x → Cut test (t ∷ ts) x.0 x.1
+group-sound : (n : ℕ) (t : Token) (ts : List Token) (x : Formula × List Token) → Sounds n → t.kind ≡ Kind.Left → (r : Read) → descend n or ts ≡ r
+    → SameRead (r >>= λ y. closed y.0 (behind Kind.Right y.1)) x → Cut test (t ∷ ts) x.0 x.1
 group-sound n t ts x ih is (Err e) f g = absurd cc
-group-sound n t ts x ih is (Ok y) f g = closed-sound t ts y.1 y.0 x is (ih or ts y f) (behind kind.Right y.1) refl g
+group-sound n t ts x ih is (Ok y) f g = closed-sound t ts y.1 y.0 x is (ih or ts y f) (behind Kind.Right y.1) refl g
 
 test-sound : (n : ℕ) (t : Token) (ts : List Token) (x : Formula × List Token) → Sounds n → (k : Kind) → t.kind ≡ k → SameRead (test_by (descend n or) t.slice ts k) x
     → Cut test (t ∷ ts) x.0 x.1
-test-sound n t ts x ih kind.Left is g = group-sound n t ts x ih is (descend n or ts) refl g
-test-sound n t ts x ih kind.Name is g = variable-sound t ts x is (behind_byte 36 t.slice) refl g
+test-sound n t ts x ih Kind.Left is g = group-sound n t ts x ih is (descend n or ts) refl g
+test-sound n t ts x ih Kind.Name is g = variable-sound t ts x is (behind_byte 36 t.slice) refl g
 test-sound n t ts x ih _ is g = absurd cc
 
 pub descend-sound : (n : ℕ) → Sounds n

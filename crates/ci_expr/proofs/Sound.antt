@@ -1,13 +1,7 @@
 -- What is read is the list of tokens.
-use Rattle.std.proofs.Common.{◌≡◌, ℕ, zero, suc, ◌+◌, ◌-◌, ◌≤◌, List, [], ◌∷◌, length, take, drop, Result, Ok, Err, refl, sym, ◌∙◌, ap, subst, arith}
-use Rattle.std.specs.Prelude.{nat_lt}
+use Rattle.std.proofs.Common.{◌≡◌, ℕ, zero, suc, ◌+◌, ◌-◌, ◌≤◌, List, [], ◌∷◌, length, take, drop, Result, Ok, Err, refl, sym, ◌∙◌, ap, subst, arith, nat_lt}
 use Rattle.std.proofs.lemmas.List.{take-append-drop, length-drop}
-use Rattle.ci_expr.specs.declared.fault.ExprCode.{ExprCode}
-use Rattle.ci_expr.specs.declared.token.Kind.{Kind}
-use Rattle.ci_expr.specs.Lexeme.{lexeme}
-use Rattle.ci_expr.specs.Character.{is_blank}
-use Rattle.ci_expr.specs.Token.{Token, token_at, IsFront, AreTokens, nothing, blank, token}
-use Rattle.ci_expr.specs.Reading.{◌>>=◌, with_token, lex, tokens_of}
+use Rattle.ci_expr.specs.Prelude.{ExprCode, Kind, lexeme, is_blank, Token, token_at, IsFront, AreTokens, nothing, blank, token, ◌>>=◌, with_token, lex, tokens_of}
 use Rattle.ci_expr.proofs.Fronts.{split, front-is, bounds}
 use Rattle.ci_expr.proofs.Lexing.{Lexed}
 

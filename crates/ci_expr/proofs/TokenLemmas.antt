@@ -1,23 +1,14 @@
 -- What is read from the left are the tokens of a text, or its first fault, and nothing else is.
-use Rattle.std.proofs.Common.{◌≡◌, ℕ, zero, suc, ◌+◌, ◌-◌, ◌<◌, ◌≤◌, Bool, true, false, cond, List, [], ◌∷◌, ◌++◌, length, take, drop, Result, Ok, Err, refl, sym, ◌∙◌, ap, subst, arith, ◌⊎◌, inl, inr}
-use Rattle.std.specs.Prelude.{nat_lt}
+use Rattle.std.proofs.Common.{◌≡◌, ℕ, zero, suc, ◌+◌, ◌-◌, ◌<◌, ◌≤◌, Bool, true, false, cond, List, [], ◌∷◌, ◌++◌, length, take, drop, Result, Ok, Err, refl, sym, ◌∙◌, ap, subst}
+use Rattle.std.proofs.Common.{arith, ◌⊎◌, inl, inr, nat_lt}
 use Rattle.std.proofs.lemmas.Bool.{le-ltb}
 use Rattle.std.proofs.lemmas.Bool.Decides.{nat_tests}
 use Rattle.std.proofs.lemmas.List.{length-append, length-drop, take-append-drop}
 use Rattle.std.specs.Global.{Vec}
-use Rattle.ci_expr.specs.declared.fault.ExprCode.{ExprCode}
-use Rattle.ci_expr.specs.declared.fault.ExprCode.TheVariants.{X1, X2, X3, X8}
-use Rattle.ci_expr.specs.declared.fault.ExprFault.{ExprFault}
-use Rattle.ci_expr.specs.declared.fault.ExprFault.TheVariants as errors
-use Rattle.ci_expr.specs.declared.token.Kind.{Kind}
-use Rattle.ci_expr.specs.declared.token.Kind.TheVariants as kind
+use Rattle.ci_expr.specs.Prelude.{ExprCode, X1, X2, X3, X8, ExprFault, Kind, lexeme, is_blank, Token, token_at, IsMark, Spells, IsFront, AreTokens, nothing, blank, token}
+use Rattle.ci_expr.specs.Prelude.{StaysOpen, quote, pattern, Stops, unclosed, wrong, ◌>>=◌, with_token, token_from, lex, tokens_of, Gives, tokens_view, Tokenizes, AtMostOneList}
 use Rattle.ci_expr.specs.declared.token.Token as rust
-use Rattle.ci_expr.specs.Lexeme.{lexeme}
-use Rattle.ci_expr.specs.Character.{is_blank}
-use Rattle.ci_expr.specs.Token.{Token, token_at, IsMark, Spells, IsFront, AreTokens, nothing, blank, token, StaysOpen, quote, pattern, Stops, unclosed, wrong}
-use Rattle.ci_expr.specs.Reading.{◌>>=◌, with_token, token_from, lex, tokens_of}
-use Rattle.ci_expr.specs.View.{Gives, tokens_view}
-use Rattle.ci_expr.specs.Meaning.{Tokenizes, Answers, AtMostOneList}
+use Rattle.ci_expr.specs.Meaning.{Answers}
 use Rattle.ci_expr.proofs.Fronts.{split, bounds, front-is}
 use Rattle.ci_expr.proofs.Sound.{tokens-sound}
 use Rattle.ci_expr.proofs.FrontLemmas.{spelled-read, open-read, unread-stops, wrong-unread}
@@ -27,21 +18,21 @@ Lexed = Result (List Token) ExprCode
 
 -- ---- a token begins with no blank
 first-filled : (k : Kind) (s rest : List ℕ) → Spells k s rest → (b : ℕ) × (bs : List ℕ) × (s ≡ b ∷ bs) × (is_blank b ≡ false)
-first-filled kind.Name s rest (b, bs, e, start, all, ends) = (36, b ∷ bs, e, refl)
-first-filled kind.Text s rest (q, body, e, mark, lacks) = (q, body ++ q ∷ [], e, filled q mark)
+first-filled Kind.Name s rest (b, bs, e, start, all, ends) = (36, b ∷ bs, e, refl)
+first-filled Kind.Text s rest (q, body, e, mark, lacks) = (q, body ++ q ∷ [], e, filled q mark)
   where
     filled : (q : ℕ) → IsMark q → is_blank q ≡ false
     filled q mark = grind (arith, nat_tests)
-first-filled kind.Null s rest h = (110, 117 ∷ 108 ∷ 108 ∷ [], h.0, refl)
-first-filled kind.Equal s rest h = (61, 61 ∷ [], h, refl)
-first-filled kind.Unequal s rest h = (33, 61 ∷ [], h, refl)
-first-filled kind.Match s rest h = (61, 126 ∷ [], h, refl)
-first-filled kind.Mismatch s rest h = (33, 126 ∷ [], h, refl)
-first-filled kind.And s rest h = (38, 38 ∷ [], h, refl)
-first-filled kind.Or s rest h = (124, 124 ∷ [], h, refl)
-first-filled kind.Left s rest h = (40, [], h, refl)
-first-filled kind.Right s rest h = (41, [], h, refl)
-first-filled kind.Pattern s rest (body, flag, e, is, fits) = (47, body ++ 47 ∷ flag, e, refl)
+first-filled Kind.Null s rest h = (110, 117 ∷ 108 ∷ 108 ∷ [], h.0, refl)
+first-filled Kind.Equal s rest h = (61, 61 ∷ [], h, refl)
+first-filled Kind.Unequal s rest h = (33, 61 ∷ [], h, refl)
+first-filled Kind.Match s rest h = (61, 126 ∷ [], h, refl)
+first-filled Kind.Mismatch s rest h = (33, 126 ∷ [], h, refl)
+first-filled Kind.And s rest h = (38, 38 ∷ [], h, refl)
+first-filled Kind.Or s rest h = (124, 124 ∷ [], h, refl)
+first-filled Kind.Left s rest h = (40, [], h, refl)
+first-filled Kind.Right s rest h = (41, [], h, refl)
+first-filled Kind.Pattern s rest (body, flag, e, is, fits) = (47, body ++ 47 ∷ flag, e, refl)
 
 -- ---- one step of reading
 abbrev rest_by : ℕ → ℕ → List ℕ → Result Token ExprCode → Lexed
@@ -239,8 +230,8 @@ tokens_of-only text (Err x) h = short-stops text x h
 
 pub tokens-answer : (text : List ℕ) (r : Result (Vec rust.Token) ExprFault) → Gives tokens_view r (tokens_of text) → Answers tokens_view r (Tokenizes text)
 tokens-answer text (Ok v) h = subst (Tokenizes text) h (tokens_of-sound text)
-tokens-answer text (Err errors.Memory) h = tt
-tokens-answer text (Err (errors.Fault x)) h = subst (Tokenizes text) h (tokens_of-sound text)
+tokens-answer text (Err ExprFault.Memory) h = tt
+tokens-answer text (Err (ExprFault.Fault x)) h = subst (Tokenizes text) h (tokens_of-sound text)
 
 pub tokens-only : (text : List ℕ) (r : Result (Vec rust.Token) ExprFault) → Gives tokens_view r (tokens_of text) → (s : Lexed) → Tokenizes text s → Gives tokens_view r s
 tokens-only text r h s t = subst (λ (q : Lexed). Gives tokens_view r q) (tokens_of-only text s t) h

@@ -1,18 +1,11 @@
 -- The formula of a whole list of tokens.
-use Rattle.std.proofs.Common.{◌≡◌, ℕ, zero, suc, ◌+◌, ◌-◌, Bool, true, false, cond, List, [], ◌∷◌, ◌++◌, Option, None, Some, Result, Ok, Err, refl, sym, ◌∙◌, ap, subst, arith, append_assoc}
-use Rattle.std.specs.Prelude.{◌==◌, ◌&&◌, ◌||◌, not}
-use Rattle.ci_expr.specs.declared.fault.ExprCode.{ExprCode}
-use Rattle.ci_expr.specs.declared.fault.ExprCode.TheVariants.{X4}
-use Rattle.ci_expr.specs.declared.token.Kind.{Kind}
-use Rattle.ci_expr.specs.declared.token.Kind.TheVariants as kind
-use Rattle.ci_expr.specs.declared.tree.Join.{Join}
-use Rattle.ci_expr.specs.declared.tree.Join.TheVariants as join
-use Rattle.ci_expr.specs.Token.{Token}
-use Rattle.ci_expr.specs.Reading.{◌>>=◌}
-use Rattle.ci_expr.specs.Formula.{Operand, null, text, variable, Formula, Level, chain, or, test, part, sign, IsOperand, Derives, single, several, in_group, alone, compared, matched, comparing, matching}
-use Rattle.ci_expr.specs.Order.{open_after, closes_none, balances, is_pattern, has_stray}
-use Rattle.ci_expr.specs.Faults.{takes_pattern}
-use Rattle.ci_expr.specs.Descent.{Read, is_kind, behind, behind_byte, operand_by, pattern_of, compared_by, compared_from, matched_by, matched_from, sign_by, named_from, variable_by, closed, test_by, joined_by, descend, reach, formula_from, whole_by}
+use Rattle.std.proofs.Common.{◌≡◌, ℕ, zero, suc, ◌+◌, ◌-◌, Bool, true, false, cond, List, [], ◌∷◌, ◌++◌, Option, None, Some, Result, Ok, Err, refl, sym, ◌∙◌, ap, subst, arith}
+use Rattle.std.proofs.Common.{append_assoc, ◌==◌, ◌&&◌, ◌||◌, not}
+use Rattle.ci_expr.specs.Prelude.{ExprCode, X4, Kind, Join, Token, ◌>>=◌, Operand, null, text, variable, Formula, Level, chain, or, test, part, sign, IsOperand, Derives, single}
+use Rattle.ci_expr.specs.Prelude.{several, in_group, alone, compared, matched, comparing, matching, open_after, closes_none, balances, is_pattern, has_stray, takes_pattern, Read}
+use Rattle.ci_expr.specs.Prelude.{is_kind, behind, behind_byte, operand_by, pattern_of, compared_by, compared_from, matched_by, matched_from, sign_by, named_from, variable_by}
+use Rattle.ci_expr.specs.Prelude.{test_by, joined_by, descend, reach, formula_from, whole_by}
+use Rattle.ci_expr.specs.Descent.{closed}
 use Rattle.ci_expr.proofs.ReadIsDerived.{Cut, descend-sound}
 use Rattle.ci_expr.proofs.DerivedIsRead.{derived-read}
 
@@ -83,13 +76,13 @@ cond-only false r h = refl
 
 matched-from-only : (negated : Bool) (name : List ℕ) (ts : List Token) → Only (matched_from negated name ts)
 matched-from-only negated name [] = refl
-matched-from-only negated name (t ∷ ts) = cond-only (is_kind t.kind kind.Pattern) (matched_by negated name ts (pattern_of t.slice)) (matched-only negated name ts (pattern_of t.slice))
+matched-from-only negated name (t ∷ ts) = cond-only (is_kind t.kind Kind.Pattern) (matched_by negated name ts (pattern_of t.slice)) (matched-only negated name ts (pattern_of t.slice))
 
 sign-only : (name : List ℕ) (t : Token) (ts : List Token) (k : Kind) → Only (sign_by name t ts k)
-sign-only name t ts kind.Equal = compared-from-only false name ts
-sign-only name t ts kind.Unequal = compared-from-only true name ts
-sign-only name t ts kind.Match = matched-from-only false name ts
-sign-only name t ts kind.Mismatch = matched-from-only true name ts
+sign-only name t ts Kind.Equal = compared-from-only false name ts
+sign-only name t ts Kind.Unequal = compared-from-only true name ts
+sign-only name t ts Kind.Match = matched-from-only false name ts
+sign-only name t ts Kind.Mismatch = matched-from-only true name ts
 sign-only name t ts _ = tt
 
 named-only : (name : List ℕ) (ts : List Token) → Only (named_from name ts)
@@ -105,8 +98,8 @@ closed-only f None = refl
 closed-only f (Some rest) = tt
 
 test-only : (next : List Token → Read) (s : List ℕ) (ts : List Token) (k : Kind) → ((us : List Token) → Only (next us)) → Only (test_by next s ts k)
-test-only next s ts kind.Left h = only-bind (next ts) _ (h ts) (λ x. closed-only x.0 (behind kind.Right x.1))
-test-only next s ts kind.Name h = variable-only ts (behind_byte 36 s)
+test-only next s ts Kind.Left h = only-bind (next ts) _ (h ts) (λ x. closed-only x.0 (behind Kind.Right x.1))
+test-only next s ts Kind.Name h = variable-only ts (behind_byte 36 s)
 test-only next s ts _ h = refl
 
 joined-only : (j : Join) (next : List Token → Read) (f : Formula) (rest : List Token) (o : Option (List Token)) → ((us : List Token) → Only (next us)) → Only (joined_by j next f rest o)
@@ -147,17 +140,17 @@ balanced-join : (xs ys : List Token) → Balanced xs → Balanced ys → Balance
 balanced-join xs ys a b n rest = ap (balances n) (append_assoc xs ys rest) ∙ a n (ys ++ rest) ∙ b n rest
 
 operand-level : (o : Operand) (w : Token) → IsOperand o w → Balanced (w ∷ [])
-operand-level null w h = level-one w kind.Null h (λ n ts. refl)
-operand-level (text bs) w h = level-one w kind.Text h.0 (λ n ts. refl)
-operand-level (variable name) w h = level-one w kind.Name h.0 (λ n ts. refl)
+operand-level null w h = level-one w Kind.Null h (λ n ts. refl)
+operand-level (text bs) w h = level-one w Kind.Text h.0 (λ n ts. refl)
+operand-level (variable name) w h = level-one w Kind.Name h.0 (λ n ts. refl)
 
 comparing-level : (negated : Bool) (c : Token) → c.kind ≡ comparing negated → Balanced (c ∷ [])
-comparing-level false c e = level-one c kind.Equal e (λ n ts. refl)
-comparing-level true c e = level-one c kind.Unequal e (λ n ts. refl)
+comparing-level false c e = level-one c Kind.Equal e (λ n ts. refl)
+comparing-level true c e = level-one c Kind.Unequal e (λ n ts. refl)
 
 matching-level : (negated : Bool) (c : Token) → c.kind ≡ matching negated → Balanced (c ∷ [])
-matching-level false c e = level-one c kind.Match e (λ n ts. refl)
-matching-level true c e = level-one c kind.Mismatch e (λ n ts. refl)
+matching-level false c e = level-one c Kind.Match e (λ n ts. refl)
+matching-level true c e = level-one c Kind.Mismatch e (λ n ts. refl)
 
 opened : (n : ℕ) → ((n + 1) == 0) ≡ false
 opened n = grind arith
@@ -165,18 +158,18 @@ opened n = grind arith
 closes : (n : ℕ) → (n + 1) - 1 ≡ n
 closes n = omega arith
 
-group-balanced : (l : Token) (inner : List Token) (r : Token) → l.kind ≡ kind.Left → Balanced inner → r.kind ≡ kind.Right → Balanced (l ∷ (inner ++ r ∷ []))
+group-balanced : (l : Token) (inner : List Token) (r : Token) → l.kind ≡ Kind.Left → Balanced inner → r.kind ≡ Kind.Right → Balanced (l ∷ (inner ++ r ∷ []))
 group-balanced l inner r left a right n rest =
-    balance-step n l ((inner ++ r ∷ []) ++ rest) kind.Left left
+    balance-step n l ((inner ++ r ∷ []) ++ rest) Kind.Left left
     ∙ ap (balances (n + 1)) (append_assoc inner (r ∷ []) rest)
     ∙ a (n + 1) (r ∷ rest)
-    ∙ balance-step (n + 1) r rest kind.Right right
+    ∙ balance-step (n + 1) r rest Kind.Right right
     ∙ ap (λ b. not b && balances ((n + 1) - 1) rest) (opened n)
     ∙ ap (λ m. balances m rest) (closes n)
 
 sign-balanced : (j : Join) (t : Token) → t.kind ≡ sign j → Balanced (t ∷ [])
-sign-balanced join.Or t e = level-one t kind.Or e (λ n ts. refl)
-sign-balanced join.And t e = level-one t kind.And e (λ n ts. refl)
+sign-balanced Join.Or t e = level-one t Kind.Or e (λ n ts. refl)
+sign-balanced Join.And t e = level-one t Kind.And e (λ n ts. refl)
 
 pub derived-balanced : (l : Level) (ts : List Token) (f : Formula) → Derives l ts f → Balanced ts
 derived-balanced _ _ _ (single j ts f d) = derived-balanced (part j) ts f d
@@ -184,12 +177,12 @@ derived-balanced _ _ _ (several j left t right ts f g a is b e) =
     subst Balanced (sym e) (balanced-join left (t ∷ right) (derived-balanced (part j) left f a)
     (balanced-join (t ∷ []) right (sign-balanced j t is) (derived-balanced (chain j) right g b)))
 derived-balanced _ _ _ (in_group l inner r ts f left a right e) = subst Balanced (sym e) (group-balanced l inner r left (derived-balanced or inner f a) right)
-derived-balanced _ _ _ (alone v name named) = level-one v kind.Name named.0 (λ n ts. refl)
+derived-balanced _ _ _ (alone v name named) = level-one v Kind.Name named.0 (λ n ts. refl)
 derived-balanced _ _ _ (compared v c w negated name operand named sign is) =
-    balanced-join (v ∷ []) (c ∷ w ∷ []) (level-one v kind.Name named.0 (λ n ts. refl)) (balanced-join (c ∷ []) (w ∷ []) (comparing-level negated c sign) (operand-level operand w is))
+    balanced-join (v ∷ []) (c ∷ w ∷ []) (level-one v Kind.Name named.0 (λ n ts. refl)) (balanced-join (c ∷ []) (w ∷ []) (comparing-level negated c sign) (operand-level operand w is))
 derived-balanced _ _ _ (matched v c w negated name source insensitive named sign is) =
-    balanced-join (v ∷ []) (c ∷ w ∷ []) (level-one v kind.Name named.0 (λ n ts. refl))
-    (balanced-join (c ∷ []) (w ∷ []) (matching-level negated c sign) (level-one w kind.Pattern is.0 (λ n ts. refl)))
+    balanced-join (v ∷ []) (c ∷ w ∷ []) (level-one v Kind.Name named.0 (λ n ts. refl))
+    (balanced-join (c ∷ []) (w ∷ []) (matching-level negated c sign) (level-one w Kind.Pattern is.0 (λ n ts. refl)))
 
 -- ---- stray patterns
 stray-step : (after : Bool) (t : Token) (ts : List Token) (k : Kind) → t.kind ≡ k → has_stray after (t ∷ ts) ≡ ((is_pattern k && not after) || has_stray (takes_pattern k) ts)
@@ -209,31 +202,31 @@ tidy-join : (xs ys : List Token) → Tidy xs → Tidy ys → Tidy (xs ++ ys)
 tidy-join xs ys a b rest = ap (has_stray false) (append_assoc xs ys rest) ∙ a (ys ++ rest) ∙ b rest
 
 operand-tidy : (o : Operand) (w : Token) → IsOperand o w → Tidy (w ∷ [])
-operand-tidy null w h = tidy-one false w kind.Null h (refl, refl)
-operand-tidy (text bs) w h = tidy-one false w kind.Text h.0 (refl, refl)
-operand-tidy (variable name) w h = tidy-one false w kind.Name h.0 (refl, refl)
+operand-tidy null w h = tidy-one false w Kind.Null h (refl, refl)
+operand-tidy (text bs) w h = tidy-one false w Kind.Text h.0 (refl, refl)
+operand-tidy (variable name) w h = tidy-one false w Kind.Name h.0 (refl, refl)
 
 comparing-tidy : (negated : Bool) (c : Token) → c.kind ≡ comparing negated → Tidy (c ∷ [])
-comparing-tidy false c e = tidy-one false c kind.Equal e (refl, refl)
-comparing-tidy true c e = tidy-one false c kind.Unequal e (refl, refl)
+comparing-tidy false c e = tidy-one false c Kind.Equal e (refl, refl)
+comparing-tidy true c e = tidy-one false c Kind.Unequal e (refl, refl)
 
-matching-tidy : (negated : Bool) (c w : Token) → c.kind ≡ matching negated → w.kind ≡ kind.Pattern → Tidy (c ∷ w ∷ [])
-matching-tidy false c w e p rest = stray-step false c (w ∷ rest) kind.Match e ∙ stray-step true w rest kind.Pattern p
-matching-tidy true c w e p rest = stray-step false c (w ∷ rest) kind.Mismatch e ∙ stray-step true w rest kind.Pattern p
+matching-tidy : (negated : Bool) (c w : Token) → c.kind ≡ matching negated → w.kind ≡ Kind.Pattern → Tidy (c ∷ w ∷ [])
+matching-tidy false c w e p rest = stray-step false c (w ∷ rest) Kind.Match e ∙ stray-step true w rest Kind.Pattern p
+matching-tidy true c w e p rest = stray-step false c (w ∷ rest) Kind.Mismatch e ∙ stray-step true w rest Kind.Pattern p
 
 sign-tidy : (j : Join) (t : Token) → t.kind ≡ sign j → Tidy (t ∷ [])
-sign-tidy join.Or t e = tidy-one false t kind.Or e (refl, refl)
-sign-tidy join.And t e = tidy-one false t kind.And e (refl, refl)
+sign-tidy Join.Or t e = tidy-one false t Kind.Or e (refl, refl)
+sign-tidy Join.And t e = tidy-one false t Kind.And e (refl, refl)
 
 pub derived-tidy : (l : Level) (ts : List Token) (f : Formula) → Derives l ts f → Tidy ts
 derived-tidy _ _ _ (single j ts f d) = derived-tidy (part j) ts f d
 derived-tidy _ _ _ (several j left t right ts f g a is b e) =
     subst Tidy (sym e) (tidy-join left (t ∷ right) (derived-tidy (part j) left f a) (tidy-join (t ∷ []) right (sign-tidy j t is) (derived-tidy (chain j) right g b)))
 derived-tidy _ _ _ (in_group l inner r ts f left a right e) =
-    subst Tidy (sym e) (tidy-join (l ∷ []) (inner ++ r ∷ []) (tidy-one false l kind.Left left (refl, refl))
-    (tidy-join inner (r ∷ []) (derived-tidy or inner f a) (tidy-one false r kind.Right right (refl, refl))))
-derived-tidy _ _ _ (alone v name named) = tidy-one false v kind.Name named.0 (refl, refl)
+    subst Tidy (sym e) (tidy-join (l ∷ []) (inner ++ r ∷ []) (tidy-one false l Kind.Left left (refl, refl))
+    (tidy-join inner (r ∷ []) (derived-tidy or inner f a) (tidy-one false r Kind.Right right (refl, refl))))
+derived-tidy _ _ _ (alone v name named) = tidy-one false v Kind.Name named.0 (refl, refl)
 derived-tidy _ _ _ (compared v c w negated name operand named sign is) =
-    tidy-join (v ∷ []) (c ∷ w ∷ []) (tidy-one false v kind.Name named.0 (refl, refl)) (tidy-join (c ∷ []) (w ∷ []) (comparing-tidy negated c sign) (operand-tidy operand w is))
+    tidy-join (v ∷ []) (c ∷ w ∷ []) (tidy-one false v Kind.Name named.0 (refl, refl)) (tidy-join (c ∷ []) (w ∷ []) (comparing-tidy negated c sign) (operand-tidy operand w is))
 derived-tidy _ _ _ (matched v c w negated name source insensitive named sign is) =
-    tidy-join (v ∷ []) (c ∷ w ∷ []) (tidy-one false v kind.Name named.0 (refl, refl)) (matching-tidy negated c w sign is.0)
+    tidy-join (v ∷ []) (c ∷ w ∷ []) (tidy-one false v Kind.Name named.0 (refl, refl)) (matching-tidy negated c w sign is.0)

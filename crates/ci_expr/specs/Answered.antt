@@ -3,7 +3,6 @@ use Rattle.std.specs.Prelude.{◌≡◌, ◌≢◌, List, [], map, ⊤}
 use Rattle.ci_expr.specs.declared.answers.Answers.{Answers}
 use Rattle.ci_expr.specs.declared.fault.ExprCode.TheVariants.{X8}
 use Rattle.ci_expr.specs.declared.fault.ExprFault.{ExprFault}
-use Rattle.ci_expr.specs.declared.fault.ExprFault.TheVariants as errors
 use Rattle.ci_expr.specs.Built.{Look, look_view, same_look}
 use Rattle.ci_expr.specs.Distinct.{AreAmong}
 
@@ -17,5 +16,5 @@ AreAnswered a ls = AreAmong same_look ls (answered a)
 
 -- these weren't, since memory was refused, or a pattern of theirs
 abbrev pub RefusesLooks : ExprFault → List Look → Type 0
-RefusesLooks errors.Memory ls = ⊤
-RefusesLooks (errors.Fault x) ls = (x ≡ X8) × (ls ≢ [])
+RefusesLooks ExprFault.Memory ls = ⊤
+RefusesLooks (ExprFault.Fault x) ls = (x ≡ X8) × (ls ≢ [])

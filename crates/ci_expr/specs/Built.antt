@@ -5,7 +5,7 @@ use Rattle.ci_expr.specs.declared.budget.PatternBudget.{PatternBudget}
 use Rattle.ci_expr.specs.declared.expr.Expr.{Expr}
 use Rattle.ci_expr.specs.declared.formula.Env.{Env}
 use Rattle.ci_expr.specs.declared.formula.Subject as subjects
-use Rattle.ci_expr.specs.declared.formula.Subject.TheVariants as subject
+use Rattle.ci_expr.specs.declared.formula.Subject.{Subject}
 use Rattle.ci_expr.specs.declared.formula.Formula as formulas
 use Rattle.ci_expr.specs.declared.formula.Formula.TheVariants.{Joined', Group', Present, Equal, Found}
 use Rattle.ci_expr.specs.declared.looks.Look as looks
@@ -19,9 +19,9 @@ abbrev pub values_of : Env → Values
 values_of env = map (λ p. (p.0.now, p.1.now)) env.pairs.now
 
 abbrev pub subject_view : subjects.Subject → Operand
-subject_view subject.Null = null
-subject_view (subject.Text s) = text (string_bytes s)
-subject_view (subject.Variable s) = variable (string_bytes s)
+subject_view Subject.Null = null
+subject_view (Subject.Text s) = text (string_bytes s)
+subject_view (Subject.Variable s) = variable (string_bytes s)
 
 abbrev pub formula_view : formulas.Formula → Formula
 formula_view (Joined' j p a q b) = joined j (formula_view a) (formula_view b)

@@ -1,12 +1,10 @@
 -- The grammar, read from the left.
-use Rattle.std.specs.Prelude.{ℕ, zero, suc, ◌+◌, ◌*◌, Bool, true, false, List, [], ◌∷◌, ◌-◌, length, take, drop, get_or, Option, Some, None, option_map, Result, Ok, Err, ◌==◌, ◌||◌, if◌then◌else◌, chars}
-use Rattle.std.specs.Option.{option_and_then}
+use Rattle.std.specs.Prelude.{ℕ, zero, suc, ◌+◌, ◌*◌, Bool, true, false, List, [], ◌∷◌, ◌-◌, length, take, drop, get_or, Option, Some, None, option_map, Result, Ok, Err, ◌==◌}
+use Rattle.std.specs.Prelude.{◌||◌, if◌then◌else◌, chars, option_and_then}
 use Rattle.ci_expr.specs.declared.fault.ExprCode.{ExprCode}
 use Rattle.ci_expr.specs.declared.fault.ExprCode.TheVariants.{X4}
 use Rattle.ci_expr.specs.declared.token.Kind.{Kind}
-use Rattle.ci_expr.specs.declared.token.Kind.TheVariants as kind
 use Rattle.ci_expr.specs.declared.tree.Join.{Join}
-use Rattle.ci_expr.specs.declared.tree.Join.TheVariants as join
 use Rattle.ci_expr.specs.Token.{Token}
 use Rattle.ci_expr.specs.Reading.{◌>>=◌}
 use Rattle.ci_expr.specs.Formula.{Operand, null, text, variable, Formula, joined, group, present, equal, found, Level, chain, or, test, part, sign}
@@ -14,18 +12,18 @@ use Rattle.ci_expr.specs.Source.{source_of}
 
 -- the place of a kind among the kinds
 abbrev pub place : Kind → ℕ
-place kind.Name = 0
-place kind.Text = 1
-place kind.Null = 2
-place kind.Equal = 3
-place kind.Unequal = 4
-place kind.Match = 5
-place kind.Mismatch = 6
-place kind.And = 7
-place kind.Or = 8
-place kind.Left = 9
-place kind.Right = 10
-place kind.Pattern = 11
+place Kind.Name = 0
+place Kind.Text = 1
+place Kind.Null = 2
+place Kind.Equal = 3
+place Kind.Unequal = 4
+place Kind.Match = 5
+place Kind.Mismatch = 6
+place Kind.And = 7
+place Kind.Or = 8
+place Kind.Left = 9
+place Kind.Right = 10
+place Kind.Pattern = 11
 
 abbrev pub is_kind : Kind → Kind → Bool
 is_kind a b = place a == place b
@@ -58,9 +56,9 @@ abbrev pub pattern_of : List ℕ → Option (List ℕ × Bool)
 pattern_of s = option_and_then body_of (behind_byte 47 s)
 
 abbrev pub operand_by : List ℕ → Kind → Option Operand
-operand_by s kind.Null = Some null
-operand_by s kind.Text = option_map text (text_of s)
-operand_by s kind.Name = option_map variable (behind_byte 36 s)
+operand_by s Kind.Null = Some null
+operand_by s Kind.Text = option_map text (text_of s)
+operand_by s Kind.Name = option_map variable (behind_byte 36 s)
 operand_by s _ = None
 
 -- ---- formulas
@@ -87,13 +85,13 @@ matched_by negated name rest (Some p) = Ok (found negated name (source_of (chars
 
 abbrev pub matched_from : Bool → List ℕ → List Token → Read
 matched_from negated name [] = Err X4
-matched_from negated name (t ∷ ts) = if is_kind t.kind kind.Pattern then matched_by negated name ts (pattern_of t.slice) else Err X4
+matched_from negated name (t ∷ ts) = if is_kind t.kind Kind.Pattern then matched_by negated name ts (pattern_of t.slice) else Err X4
 
 abbrev pub sign_by : List ℕ → Token → List Token → Kind → Read
-sign_by name t ts kind.Equal = compared_from false name ts
-sign_by name t ts kind.Unequal = compared_from true name ts
-sign_by name t ts kind.Match = matched_from false name ts
-sign_by name t ts kind.Mismatch = matched_from true name ts
+sign_by name t ts Kind.Equal = compared_from false name ts
+sign_by name t ts Kind.Unequal = compared_from true name ts
+sign_by name t ts Kind.Match = matched_from false name ts
+sign_by name t ts Kind.Mismatch = matched_from true name ts
 sign_by name t ts _ = Ok (present name, t ∷ ts)
 
 abbrev pub named_from : List ℕ → List Token → Read
@@ -110,8 +108,8 @@ closed f (Some rest) = Ok (group f, rest)
 
 -- what a test is, where `next` reads an `or`
 abbrev pub test_by : (List Token → Read) → List ℕ → List Token → Kind → Read
-test_by next s ts kind.Left = next ts >>= λ x. closed x.0 (behind kind.Right x.1)
-test_by next s ts kind.Name = variable_by ts (behind_byte 36 s)
+test_by next s ts Kind.Left = next ts >>= λ x. closed x.0 (behind Kind.Right x.1)
+test_by next s ts Kind.Name = variable_by ts (behind_byte 36 s)
 test_by next s ts _ = Err X4
 
 -- a formula and those that are joined to it, where `next` reads the others
@@ -128,8 +126,8 @@ descend (suc n) test (t ∷ ts) = test_by (descend n or) t.slice ts t.kind
 
 -- how far a level lies above the tokens
 abbrev pub height : Level → ℕ
-height (chain join.Or) = 3
-height (chain join.And) = 2
+height (chain Join.Or) = 3
+height (chain Join.And) = 2
 height test = 1
 
 -- so many steps are enough

@@ -1,15 +1,14 @@
 -- What is wrong with a list of tokens, before the grammar is asked.
 use Rattle.std.specs.Prelude.{◌≡◌, ℕ, ◌+◌, ◌<◌, ◌≤◌, Bool, true, false, List, [], ◌∷◌, ◌++◌, take}
 use Rattle.ci_expr.specs.declared.token.Kind.{Kind}
-use Rattle.ci_expr.specs.declared.token.Kind.TheVariants as kind
 use Rattle.ci_expr.specs.Token.{Token}
 
 abbrev pub opens : Kind → ℕ
-opens kind.Left = 1
+opens Kind.Left = 1
 opens _ = 0
 
 abbrev pub closes : Kind → ℕ
-closes kind.Right = 1
+closes Kind.Right = 1
 closes _ = 0
 
 -- how many parentheses are opened, and how many are closed
@@ -31,8 +30,8 @@ IsDeep ts = (k : ℕ) × (closed (take k ts) + 32 < opened (take k ts))
 
 -- `=~` and `!~`
 abbrev pub takes_pattern : Kind → Bool
-takes_pattern kind.Match = true
-takes_pattern kind.Mismatch = true
+takes_pattern Kind.Match = true
+takes_pattern Kind.Mismatch = true
 takes_pattern _ = false
 
 abbrev pub ends_in_match : List Token → Bool
@@ -42,4 +41,4 @@ ends_in_match (t ∷ u ∷ ts) = ends_in_match (u ∷ ts)
 
 -- a pattern stands where no `=~` or `!~` is directly before it
 abbrev pub HasStray : List Token → Type 0
-HasStray ts = (before : List Token) × (t : Token) × (behind : List Token) × (ts ≡ before ++ t ∷ behind) × (t.kind ≡ kind.Pattern) × (ends_in_match before ≡ false)
+HasStray ts = (before : List Token) × (t : Token) × (behind : List Token) × (ts ≡ before ++ t ∷ behind) × (t.kind ≡ Kind.Pattern) × (ends_in_match before ≡ false)

@@ -1,9 +1,7 @@
 -- Formulas, the tokens that spell them, and their truth.
 use Rattle.std.specs.Prelude.{◌≡◌, ℕ, Bool, true, false, List, [], ◌∷◌, ◌++◌, ◌||◌, chars}
 use Rattle.ci_expr.specs.declared.token.Kind.{Kind}
-use Rattle.ci_expr.specs.declared.token.Kind.TheVariants as kind
 use Rattle.ci_expr.specs.declared.tree.Join.{Join}
-use Rattle.ci_expr.specs.declared.tree.Join.TheVariants as join
 use Rattle.ci_expr.specs.Source.{source_of}
 use Rattle.ci_expr.specs.Token.{Token, IsMark}
 
@@ -34,36 +32,36 @@ pub data Level : Type 0 where
 
 -- any formula
 abbrev pub or : Level
-or = chain join.Or
+or = chain Join.Or
 
 -- what is joined: `||` joins chains of `&&`, and `&&` joins tests
 abbrev pub part : Join → Level
-part join.Or = chain join.And
-part join.And = test
+part Join.Or = chain Join.And
+part Join.And = test
 
 -- the token that joins
 abbrev pub sign : Join → Kind
-sign join.Or = kind.Or
-sign join.And = kind.And
+sign Join.Or = Kind.Or
+sign Join.And = Kind.And
 
 -- `==`, and `!=` where it is negated
 abbrev pub comparing : Bool → Kind
-comparing false = kind.Equal
-comparing true = kind.Unequal
+comparing false = Kind.Equal
+comparing true = Kind.Unequal
 
 -- `=~`, and `!~` where it is negated
 abbrev pub matching : Bool → Kind
-matching false = kind.Match
-matching true = kind.Mismatch
+matching false = Kind.Match
+matching true = Kind.Mismatch
 
 -- a name, without its `$`
 abbrev pub IsNamed : List ℕ → Token → Type 0
-IsNamed name t = (t.kind ≡ kind.Name) × (t.slice ≡ 36 ∷ name)
+IsNamed name t = (t.kind ≡ Kind.Name) × (t.slice ≡ 36 ∷ name)
 
 -- a text without its marks, `null` or a variable
 abbrev pub IsOperand : Operand → Token → Type 0
-IsOperand null t = t.kind ≡ kind.Null
-IsOperand (text bs) t = (t.kind ≡ kind.Text) × ((q : ℕ) × IsMark q × (t.slice ≡ q ∷ (bs ++ q ∷ [])))
+IsOperand null t = t.kind ≡ Kind.Null
+IsOperand (text bs) t = (t.kind ≡ Kind.Text) × ((q : ℕ) × IsMark q × (t.slice ≡ q ∷ (bs ++ q ∷ [])))
 IsOperand (variable name) t = IsNamed name t
 
 abbrev pub flag_of : Bool → List ℕ
@@ -73,14 +71,14 @@ flag_of true = 105 ∷ []
 -- `/body/`, or `/body/i`
 abbrev pub IsPatternOf : List ℕ → Bool → Token → Type 0
 IsPatternOf source insensitive t =
-    (t.kind ≡ kind.Pattern) × ((body : List ℕ) × (t.slice ≡ 47 ∷ (body ++ 47 ∷ flag_of insensitive)) × (source ≡ source_of (chars body)))
+    (t.kind ≡ Kind.Pattern) × ((body : List ℕ) × (t.slice ≡ 47 ∷ (body ++ 47 ∷ flag_of insensitive)) × (source ≡ source_of (chars body)))
 
 -- the grammar: the tokens are this formula, read at this level
 pub data Derives : Level → List Token → Formula → Type 0 where
   single : (j : Join) (ts : List Token) (f : Formula) → Derives (part j) ts f → Derives (chain j) ts f
   several : (j : Join) (left : List Token) (t : Token) (right ts : List Token) (f g : Formula) → Derives (part j) left f → t.kind ≡ sign j → Derives (chain j) right g
       → ts ≡ left ++ t ∷ right → Derives (chain j) ts (joined j f g)
-  in_group : (l : Token) (inner : List Token) (r : Token) (ts : List Token) (f : Formula) → l.kind ≡ kind.Left → Derives or inner f → r.kind ≡ kind.Right
+  in_group : (l : Token) (inner : List Token) (r : Token) (ts : List Token) (f : Formula) → l.kind ≡ Kind.Left → Derives or inner f → r.kind ≡ Kind.Right
       → ts ≡ l ∷ (inner ++ r ∷ []) → Derives test ts (group f)
   alone : (v : Token) (name : List ℕ) → IsNamed name v → Derives test (v ∷ []) (present name)
   compared : (v c w : Token) (negated : Bool) (name : List ℕ) (operand : Operand) → IsNamed name v → c.kind ≡ comparing negated → IsOperand operand w

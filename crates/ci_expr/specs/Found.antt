@@ -9,7 +9,6 @@ use Rattle.regex_nfa.specs.Sizes.{table_bytes}
 use Rattle.regex_nfa.specs.declared.nfa.Nfa.{Nfa}
 use Rattle.regex_compile.specs.Implements.{Implements}
 use Rattle.ci_expr.specs.declared.pattern.Refusal.{Refusal}
-use Rattle.ci_expr.specs.declared.pattern.Refusal.TheVariants as refusals
 
 -- the default options of `regex`, with letters in either case or not
 abbrev pub config_of : Bool → Config
@@ -33,9 +32,9 @@ IsNoPattern insensitive source = IfSome (read (config_of insensitive) source) (�
 
 -- Why a pattern was not built: of a pattern that is too big `regex` says that it is one, and not how big.
 abbrev pub IsRefused : Bool → List ℕ → Refusal → Type 0
-IsRefused insensitive source refusals.Memory = ⊤
-IsRefused insensitive source refusals.Syntax = IsNoPattern insensitive source
-IsRefused insensitive source refusals.Size = IsPattern insensitive source
+IsRefused insensitive source Refusal.Memory = ⊤
+IsRefused insensitive source Refusal.Syntax = IsNoPattern insensitive source
+IsRefused insensitive source Refusal.Size = IsPattern insensitive source
 
 -- the automaton of `regex` for what it reads in a source
 abbrev pub IsAutomatonOf : Bool → List ℕ → Nfa → Type 0

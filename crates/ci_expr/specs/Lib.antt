@@ -17,3 +17,4 @@ pub mod Built
 pub mod Budget
 pub mod Computed
 pub mod Answered
+pub mod Prelude

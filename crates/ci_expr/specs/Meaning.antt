@@ -3,7 +3,6 @@ use Rattle.std.specs.Prelude.{◌≡◌, ◌≢◌, ℕ, ◌<◌, ◌≤◌, ◌
 use Rattle.ci_expr.specs.declared.fault.ExprCode.{ExprCode}
 use Rattle.ci_expr.specs.declared.fault.ExprCode.TheVariants.{X1, X4, X5, X6, X7, X8}
 use Rattle.ci_expr.specs.declared.fault.ExprFault.{ExprFault}
-use Rattle.ci_expr.specs.declared.fault.ExprFault.TheVariants as errors
 use Rattle.ci_expr.specs.Token.{Token, AreTokens, Stops}
 use Rattle.ci_expr.specs.Formula.{Formula, joined, group, present, equal, found, or, Derives, has_pattern}
 use Rattle.ci_expr.specs.Found.{IsPattern}
@@ -40,16 +39,16 @@ Means text (Err x) = Tokenizes text (Err x) ⊎ ((ts : List Token) × Tokenizes 
 -- What a call answers is so, unless memory ran out.
 abbrev pub Answers : {X Y : Type 0} → (X → Y) → Result X ExprFault → (Result Y ExprCode → Type 0) → Type 0
 Answers view (Ok x) P = P (Ok (view x))
-Answers view (Err errors.Memory) P = ⊤
-Answers view (Err (errors.Fault x)) P = P (Err x)
+Answers view (Err ExprFault.Memory) P = ⊤
+Answers view (Err (ExprFault.Fault x)) P = P (Err x)
 
 -- What means this is answered so, unless memory ran out or a pattern is refused.
 abbrev pub Allows : {X : Type 0} → (X → Formula) → Result X ExprFault → Result Formula ExprCode → Type 0
 Allows view (Ok x) (Ok f) = f ≡ view x
 Allows view (Ok x) (Err y) = (y ≡ X8) × (has_pattern (view x) ≡ true)
-Allows view (Err errors.Memory) r = ⊤
-Allows view (Err (errors.Fault x)) (Ok f) = (x ≡ X8) × (has_pattern f ≡ true)
-Allows view (Err (errors.Fault x)) (Err y) = y ≡ x
+Allows view (Err ExprFault.Memory) r = ⊤
+Allows view (Err (ExprFault.Fault x)) (Ok f) = (x ≡ X8) × (has_pattern f ≡ true)
+Allows view (Err (ExprFault.Fault x)) (Err y) = y ≡ x
 
 -- `regex` has each pattern of the formula
 abbrev pub ArePatterns : Formula → Type 0
@@ -87,5 +86,5 @@ parse_of ts = parse_by ts (list_fault ts)
 -- what is computed, with its patterns built
 abbrev pub IsBuilt : {X : Type 0} → (X → Formula) → Result X ExprFault → Result Formula ExprCode → Type 0
 IsBuilt view (Ok x) r = r ≡ Ok (view x)
-IsBuilt view (Err errors.Memory) r = ⊤
-IsBuilt view (Err (errors.Fault x)) r = (r ≡ Err x) ⊎ ((x ≡ X8) × ((f : Formula) × (r ≡ Ok f) × (has_pattern f ≡ true)))
+IsBuilt view (Err ExprFault.Memory) r = ⊤
+IsBuilt view (Err (ExprFault.Fault x)) r = (r ≡ Err x) ⊎ ((x ≡ X8) × ((f : Formula) × (r ≡ Ok f) × (has_pattern f ≡ true)))

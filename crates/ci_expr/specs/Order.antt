@@ -3,19 +3,18 @@ use Rattle.std.specs.Prelude.{ℕ, ◌+◌, ◌-◌, Bool, true, false, List, []
 use Rattle.ci_expr.specs.declared.fault.ExprCode.{ExprCode}
 use Rattle.ci_expr.specs.declared.fault.ExprCode.TheVariants.{X5, X6, X7}
 use Rattle.ci_expr.specs.declared.token.Kind.{Kind}
-use Rattle.ci_expr.specs.declared.token.Kind.TheVariants as kind
 use Rattle.ci_expr.specs.Token.{Token}
 use Rattle.ci_expr.specs.Faults.{takes_pattern}
 
 -- how many parentheses are open after a token
 abbrev pub open_after : ℕ → Kind → ℕ
-open_after n kind.Left = n + 1
-open_after n kind.Right = n - 1
+open_after n Kind.Left = n + 1
+open_after n Kind.Right = n - 1
 open_after n _ = n
 
 -- a parenthesis that closes where none is open
 abbrev pub closes_none : ℕ → Kind → Bool
-closes_none n kind.Right = n == 0
+closes_none n Kind.Right = n == 0
 closes_none n _ = false
 
 -- none closes what isn't open, and none is left open
@@ -29,7 +28,7 @@ deepest n [] = n
 deepest n (t ∷ ts) = max n (deepest (open_after n t.kind) ts)
 
 abbrev pub is_pattern : Kind → Bool
-is_pattern kind.Pattern = true
+is_pattern Kind.Pattern = true
 is_pattern _ = false
 
 -- a pattern stands where no `=~` or `!~` is directly before it

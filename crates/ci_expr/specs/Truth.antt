@@ -1,7 +1,7 @@
 -- The truth of a formula where variables have values.
 use Rattle.std.specs.Prelude.{ℕ, Bool, true, false, List, [], ◌∷◌, Option, Some, None, unwrap_or, not, ◌&&◌, ◌||◌, if◌then◌else◌}
 use Rattle.std.specs.Str.{bytes_eq}
-use Rattle.ci_expr.specs.declared.tree.Join.TheVariants as join
+use Rattle.ci_expr.specs.declared.tree.Join.{Join}
 use Rattle.ci_expr.specs.Formula.{Operand, null, text, variable, Formula, joined, group, present, equal, found}
 use Rattle.ci_expr.specs.Found.{config_of, is_found_in}
 
@@ -37,8 +37,8 @@ negated_by true b = not b
 
 -- an undefined variable is matched as the empty text
 abbrev pub truth : Values → Formula → Bool
-truth vs (joined join.Or f g) = truth vs f || truth vs g
-truth vs (joined join.And f g) = truth vs f && truth vs g
+truth vs (joined Join.Or f g) = truth vs f || truth vs g
+truth vs (joined Join.And f g) = truth vs f && truth vs g
 truth vs (group f) = truth vs f
 truth vs (present name) = is_filled (value_of vs name)
 truth vs (equal negated name operand) = negated_by negated (same_value (value_of vs name) (operand_value vs operand))

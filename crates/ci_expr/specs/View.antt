@@ -5,7 +5,6 @@ use Rattle.std.specs.Global.{Vec}
 use Rattle.ci_expr.specs.declared.fault.ExprCode.{ExprCode}
 use Rattle.ci_expr.specs.declared.fault.ExprCode.TheVariants.{X8}
 use Rattle.ci_expr.specs.declared.fault.ExprFault.{ExprFault}
-use Rattle.ci_expr.specs.declared.fault.ExprFault.TheVariants as errors
 use Rattle.ci_expr.specs.declared.token.Token as rust
 use Rattle.ci_expr.specs.declared.tree.Operand as operands
 use Rattle.ci_expr.specs.declared.tree.Operand.TheVariants as operand
@@ -40,8 +39,8 @@ read_view r = (tree_view r.0, map token_view r.1.now)
 
 -- What a function returned is what reading gives, unless memory ran out.
 abbrev pub Fails : {Y : Type 0} → ExprFault → Result Y ExprCode → Type 0
-Fails errors.Memory read = ⊤
-Fails (errors.Fault c) read = read ≡ Err c
+Fails ExprFault.Memory read = ⊤
+Fails (ExprFault.Fault c) read = read ≡ Err c
 
 abbrev pub Gives : {X Y : Type 0} → (X → Y) → Result X ExprFault → Result Y ExprCode → Type 0
 Gives view (Ok x) read = read ≡ Ok (view x)
@@ -49,13 +48,13 @@ Gives view (Err e) read = Fails e read
 
 -- the only fault of a pattern
 abbrev pub IsOfPattern : ExprFault → Type 0
-IsOfPattern errors.Memory = ⊤
-IsOfPattern (errors.Fault x) = x ≡ X8
+IsOfPattern ExprFault.Memory = ⊤
+IsOfPattern (ExprFault.Fault x) = x ≡ X8
 
 -- a pattern is refused only where there is one
 abbrev pub RefusesPattern : ExprFault → Formula → Type 0
-RefusesPattern errors.Memory f = ⊤
-RefusesPattern (errors.Fault x) f = (x ≡ X8) × (has_pattern f ≡ true)
+RefusesPattern ExprFault.Memory f = ⊤
+RefusesPattern (ExprFault.Fault x) f = (x ≡ X8) × (has_pattern f ≡ true)
 
 -- what reading a level answers, with any number of steps that is enough
 abbrev pub IsDescent : Level → List Token → Result (trees.Tree × Bor (List rust.Token)) ExprFault → Type 0

@@ -2,8 +2,8 @@
 
 ghost use Rattle.std.specs.Prelude.{◌≡◌, ◌≤◌, ◌+◌, length, string_bytes, sum_by};
 ghost use Rattle.ci_expr.specs.Budget.{is_class_mark, class_marks, class_cost, Leaves};
-ghost use Rattle.ci_expr.specs.Built.{pattern_view, patterns_view, cost_of, look_view, looks_view, look_cost};
 ghost use Rattle.ci_expr.specs.Budget.{is_flag, names_unicode, drops_unicode, may_drop_unicode};
+ghost use Rattle.ci_expr.specs.Built.{pattern_view, patterns_view, cost_of, look_view, looks_view, look_cost};
 
 use crate::looks::Look;
 use crate::pattern::Pattern;

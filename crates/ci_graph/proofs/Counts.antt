@@ -1,5 +1,5 @@
 -- How often numbers stand in lists.
-use Rattle.std.proofs.Common.{◌≡◌, ◌⊎◌, ℕ, zero, suc, ◌+◌, ◌<◌, ◌≤◌, ◌==◌, Bool, true, false, cond, ◌||◌, List, [], ◌∷◌, ◌++◌, length, take, drop, refl, sym, ap, ◌∙◌, arith, eqb-true, ⊎_elim, inl, inr}
+use Rattle.std.proofs.Common.{◌≡◌, ◌⊎◌, ℕ, zero, suc, ◌+◌, ◌<◌, ◌≤◌, ◌==◌, Bool, true, false, cond, ◌||◌, List, [], ◌∷◌, ◌++◌, length, take, refl, sym, ap, ◌∙◌, arith, eqb-true, ⊎_elim, inl, inr}
 use Rattle.std.proofs.lemmas.Bool.{cond_both, eqb-false, eq-eqb}
 use Rattle.ci_graph.specs.Lists.{tally, times, is_among, number_at, once}
 
@@ -76,10 +76,6 @@ yes_among xs i e = ⊎_elim (λ z. absurd (let f : is_among xs i ≡ false = amo
 pub no_among : (xs : List ℕ) (i : ℕ) → is_among xs i ≡ false → times i xs ≡ 0
 no_among xs i e = ⊎_elim (λ z. z) (λ m. absurd (let f : is_among xs i ≡ true = among_yes xs i m in cc)) (times_or_none i xs)
 
-pub among_once : (xs : List ℕ) (i : ℕ) (c : Bool) → times i xs ≡ once c → is_among xs i ≡ c
-among_once xs i true e = among_yes xs i (omega arith)
-among_once xs i false e = among_no xs i e
-
 pub once_few : (c : Bool) → once c ≤ 1
 once_few true = omega arith
 once_few false = omega arith
@@ -116,11 +112,6 @@ times_take i (suc m) (suc k) (x ∷ xs) l = step (x == i) (times i (take m xs)) 
     step : (b : Bool) (a c : ℕ) → a ≤ c → cond b (suc a) a ≤ cond b (suc c) c
     step true a c h = omega arith
     step false a c h = h
-
-pub times_split : (i k : ℕ) (xs : List ℕ) → times i xs ≡ times i (take k xs) + times i (drop k xs)
-times_split i zero xs = omega arith
-times_split i (suc k) [] = omega arith
-times_split i (suc k) (x ∷ xs) = joined_one (x == i) (times i xs) (times i (take k xs)) (times i (drop k xs)) (times_split i k xs)
 
 -- the number at k stands once more in the list than before k
 pub times_after : (k : ℕ) (xs : List ℕ) → k < length xs → times (number_at xs k) (take k xs) + 1 ≤ times (number_at xs k) xs

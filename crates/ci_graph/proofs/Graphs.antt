@@ -1,11 +1,11 @@
 -- Graphs made of pairs.
-use Rattle.std.proofs.Common.{◌≡◌, ℕ, ◌<◌, ◌≤◌, ◌^◌, List, length, sym, ap, ◌∙◌, arith, Option, Some, None, IfSome, IfNone, Contains}
-use Rattle.ci_graph.specs.Lists.{times, number_at, IsOrder, once, IsStuck}
+use Rattle.std.proofs.Common.{◌≡◌, ℕ, ◌<◌, ◌≤◌, ◌^◌, List, length, sym, ◌∙◌, arith, Option, Some, None, IfSome, IfNone}
+use Rattle.ci_graph.specs.Lists.{times, number_at, IsOrder, IsStuck}
 use Rattle.ci_graph.specs.JobGraph.{JobGraph, IsJobGraph, HasPairs, predecessors_of, successors_of}
-use Rattle.ci_graph.specs.Pairs.{AreWithin, GiveNeighbours, HasCycle, IsAcyclic, has_pair, firsts_of}
+use Rattle.ci_graph.specs.Pairs.{AreWithin, GiveNeighbours, HasCycle, IsAcyclic, has_pair}
 use Rattle.ci_graph.proofs.Steps.{Neighbours, AreNeighbours}
 use Rattle.ci_graph.proofs.Counts.{at_times, few_below, once_yes, once_few}
-use Rattle.ci_graph.proofs.Groups.{contains_has, has_yes, within_of, times_distinct, among_firsts}
+use Rattle.ci_graph.proofs.Groups.{within_of}
 use Rattle.ci_graph.proofs.Cycles.{are_predecessors, cycle_of, ranked_of, ranked_acyclic}
 
 -- by number and list, so that the number may be given in another form
@@ -37,27 +37,6 @@ graph_of g pairs w few h o =
 
 pub pairs_of : (g : JobGraph) (pairs : List (ℕ × ℕ)) → GiveNeighbours (length g.parts) pairs g.predecessors g.successors → IsOrder (length g.parts) g.predecessors g.order → HasPairs g pairs
 pairs_of g pairs h o = record { predecessors = h.predecessors; successors = h.successors; ordered = o }
-
--- what the pairs of a graph say of its neighbours: a pair's first is once among the second's predecessors, and the second once among the first's
--- successors; and nothing else is
-pub pred_once : (g : JobGraph) (pairs : List (ℕ × ℕ)) → HasPairs g pairs → AreWithin (length g.parts) pairs → (i j : ℕ) → Contains pairs (i, j) → times i (predecessors_of g j) ≡ 1
-pred_once g pairs h w i j c =
-    ap (λ (xs : List ℕ). times i xs) (h.predecessors j (within_of (length g.parts) pairs w i j c).1)
-    ∙ (times_distinct i (firsts_of pairs j) ∙ (ap once (among_firsts pairs i j) ∙ ap once (contains_has pairs i j c)))
-
-pub succ_once : (g : JobGraph) (pairs : List (ℕ × ℕ)) → HasPairs g pairs → AreWithin (length g.parts) pairs → (i j : ℕ) → Contains pairs (i, j) → times j (successors_of g i) ≡ 1
-succ_once g pairs h w i j c = h.successors i j (within_of (length g.parts) pairs w i j c).0 ∙ ap once (contains_has pairs i j c)
-
-pub pred_alone : (g : JobGraph) (pairs : List (ℕ × ℕ)) → HasPairs g pairs → (i j : ℕ) → j < length g.parts → 0 < times i (predecessors_of g j) → Contains pairs (i, j)
-pred_alone g pairs h i j l m =
-    let counted : times i (predecessors_of g j) ≡ once (has_pair pairs i j)
-    = ap (λ (xs : List ℕ). times i xs) (h.predecessors j l) ∙ (times_distinct i (firsts_of pairs j) ∙ ap once (among_firsts pairs i j)) in
-    has_yes pairs i j (once_yes (has_pair pairs i j) (omega arith))
-
-pub succ_alone : (g : JobGraph) (pairs : List (ℕ × ℕ)) → HasPairs g pairs → (i j : ℕ) → i < length g.parts → 0 < times j (successors_of g i) → Contains pairs (i, j)
-succ_alone g pairs h i j l m =
-    let counted : times j (successors_of g i) ≡ once (has_pair pairs i j) = h.successors i j l in
-    has_yes pairs i j (once_yes (has_pair pairs i j) (omega arith))
 
 pub order_same : (m n : ℕ) (ps qs : List (List ℕ)) (order : List ℕ) → m ≡ n → ps ≡ qs → IsOrder m ps order → IsOrder n qs order
 order_same m n ps qs order e f h = rw (← e, ← f) h

@@ -6,7 +6,7 @@ use Rattle.std.proofs.lemmas.List.{get_or-set_same, get_or-set_other, get_or-map
 use Rattle.ci_graph.specs.Lists.{list_at, tally, times, is_among, number_at, IsOrder, once, IsStuck}
 use Rattle.ci_graph.specs.Pairs.{has_pair}
 use Rattle.ci_graph.proofs.Steps.{Neighbours, AreNeighbours, Progress, sources, released_one, released, IsReady}
-use Rattle.ci_graph.proofs.Counts.{times_push, times_here, times_more, times_same, times_cases, at_times, among_yes, among_no, yes_among, no_among, times_or_none, once_few, once_yes, once_no, tally_none, tally_some, times_after, times_below, below_length, below_few, below_full, below_missing}
+use Rattle.ci_graph.proofs.Counts.{times_push, times_here, times_more, times_same, times_cases, at_times, among_no, yes_among, no_among, once_few, once_yes, once_no, tally_none, tally_some, times_after, times_below, below_length, below_few, below_full, below_missing}
 
 -- while the successors ss of the position that was taken are still to be released
 record IsReleasing (n : ℕ) (wanted : ℕ → ℕ) (base : List ℕ) (ss : List ℕ) (t : Progress) : Type 0 where
@@ -133,19 +133,6 @@ released_is ss t after long inside few left queue =
 pub succ_few : (n : ℕ) (pairs : List (ℕ × ℕ)) (s : Neighbours) → AreNeighbours n pairs s → (j i : ℕ) → j < n → times i (list_at s.successors j) ≤ 1
 succ_few n pairs s h j i l = rw (h.succ j i l) (once_few (has_pair pairs j i))
 
--- how many of the predecessors aren't among the first k
-abbrev still : List ℕ → ℕ → List ℕ → ℕ
-still queue k ps = tally (λ p. not (is_among (take k queue) p)) ps
-
-not_of : (b : Bool) → b ≡ false → not b ≡ true
-not_of b e = ap not e
-
-among_push : (xs : List ℕ) (j x : ℕ) → (j ≡ x → ⊥) → is_among (xs ++ j ∷ []) x ≡ is_among xs x
-among_push xs j x d = ⊎_elim
-    (λ z. among_no (xs ++ j ∷ []) x (times_push x j xs ∙ (let o : once (j == x) ≡ 0 = once_not (j == x) (ne_eqb j x d) in omega arith)) ∙ sym (among_no xs x z))
-    (λ m. among_yes (xs ++ j ∷ []) x (let p : times x (xs ++ j ∷ []) ≡ times x xs + once (j == x) = times_push x j xs in omega arith) ∙ sym (among_yes xs x m))
-    (times_or_none x xs)
-
 one_less : (b c : Bool) (x y z m : ℕ) → (c ≡ true → b ≡ false) → x ≡ y + m → cond (not b) (suc x) x ≡ cond (not (b || c)) (suc y) y + cond c (suc m) m
 one_less true true x y z m h e = absurd (let f : true ≡ false = h refl in cc)
 one_less true false x y z m h e = omega arith
@@ -248,10 +235,6 @@ ready_more n pairs predecessors successors k t after neighbours h l e = rw e (
           (λ c. let d : m ≡ k → ⊥ = eqb-false m k c in
           h.before m i (omega arith) (rw (← at) w)));
     })
-
--- the queue at first: the positions without predecessors
-abbrev pub sources_of : List (List ℕ) → List ℕ
-sources_of predecessors = sources 0 (map length predecessors)
 
 sources_low : (xs : List ℕ) (k i : ℕ) → i < k → times i (sources k xs) ≡ 0
 sources_low [] k i l = refl

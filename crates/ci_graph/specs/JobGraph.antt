@@ -4,10 +4,9 @@ use Rattle.ci_graph.specs.Lists.{list_at, number_at, times, once, distinct, IsOr
 use Rattle.ci_graph.specs.Pairs.{HasCycle, firsts_of, has_pair}
 use Rattle.ci_graph.specs.declared.part.Part.{Part}
 use Rattle.ci_graph.specs.declared.part.GraphFault.{GraphFault}
-use Rattle.ci_graph.specs.declared.part.GraphFault.TheVariants as fault
-use Rattle.ci_values.specs.declared.when.When.TheVariants as «when»
+use Rattle.ci_values.specs.declared.when.When.{When}
 use Rattle.ci_values.specs.declared.when.Causes.{Causes}
-use Rattle.ci_values.specs.declared.when.AllowFailure.TheVariants as allow
+use Rattle.ci_values.specs.declared.when.AllowFailure.{AllowFailure}
 
 -- parts, predecessors and successors by position; an order; and how often an edge was handed out
 pub record JobGraph : Type 0 where
@@ -28,7 +27,7 @@ no_causes = record {
 }
 
 abbrev pub no_part : Part
-no_part = record { «when» = «when».OnSuccess; allow_failure = allow.No; retry = record { max = 0; causes = no_causes }; gives_needs = false }
+no_part = record { «when» = When.OnSuccess; allow_failure = AllowFailure.No; retry = record { max = 0; causes = no_causes }; gives_needs = false }
 
 abbrev pub part_of : List Part → ℕ → Part
 part_of parts j = slice_index_or parts j no_part
@@ -51,8 +50,8 @@ pub record HasPairs (g : JobGraph) (pairs : List (ℕ × ℕ)) : Type 0 where
 
 -- what a fault says of the pairs
 abbrev pub IsFaultOf : List (ℕ × ℕ) → GraphFault → Type 0
-IsFaultOf pairs fault.G3 = HasCycle pairs
-IsFaultOf pairs fault.Memory = Unit {0}
+IsFaultOf pairs GraphFault.G3 = HasCycle pairs
+IsFaultOf pairs GraphFault.Memory = Unit {0}
 
 -- each neighbour stands once; successors mirror predecessors; and the order is one
 pub record IsJobGraph (g : JobGraph) : Type 0 where

@@ -2,11 +2,7 @@
 use Rattle.std.proofs.Common.{◌≡◌, ℕ, List, [], ◌∷◌, ◌++◌, Option, Some, None, refl, sym, ap, ◌∙◌, ⊎_elim}
 use Rattle.std.proofs.lemmas.Bool.{cases_Bool}
 use Rattle.std.specs.Str.{bytes_eq}
-use Rattle.ci_values.specs.Layers.{Variables, or_else, value_in}
-use Rattle.ci_values.specs.Table.{meaning_of}
-use Rattle.ci_config.specs.Config.{Config, Job}
-use Rattle.ci_graph_layout.specs.Inclusion.{Given, layered, own_names}
-use Rattle.ci_graph_layout.specs.Layering.{layers_of}
+use Rattle.ci_graph_layout.specs.Prelude.{Variables, or_else, value_in, meaning_of, Config, Job, Given, layered, own_names, layers_of}
 
 append_mean : (xs ys : Variables) (name : List ℕ) → meaning_of (xs ++ ys) name ≡ or_else (meaning_of xs name) (meaning_of ys name)
 append_mean [] ys name = refl

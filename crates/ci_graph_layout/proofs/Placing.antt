@@ -2,10 +2,7 @@
 use Rattle.std.proofs.Common.{◌≡◌, ◌<◌, ◌+◌, ◌++◌, ℕ, List, Some, ◌∷◌, drop, map, length, get_or, sym, ap, ◌∙◌, if◌then◌else◌}
 use Rattle.std.proofs.lemmas.List.{at_drop_more}
 use Rattle.std.specs.Str.{bytes_eq}
-use Rattle.ci_config.specs.Config.{Text}
-use Rattle.ci_graph_layout.specs.Inclusion.{IncludedJob as Meant}
-use Rattle.ci_graph_layout.specs.Layout.{place_from, predecessors, pairs_from}
-use Rattle.ci_graph_layout.specs.View.{included_view}
+use Rattle.ci_graph_layout.specs.Prelude.{Text, IncludedJob as Meant, place_from, predecessors, pairs_from, included_view}
 use Rattle.ci_graph_layout.specs.declared.inclusion.IncludedJob.{IncludedJob}
 
 pub place_further : (jobs : List IncludedJob) (i : ℕ) (job : IncludedJob) (q : List ℕ) → i < length jobs → job ≡ get_or jobs i job

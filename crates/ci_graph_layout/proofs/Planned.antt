@@ -1,12 +1,7 @@
 -- What the code found of a lineup, said of the file.
-use Rattle.std.proofs.Common.{◌≡◌, ◌≢◌, ℕ, List, Option, Some, None, Ok, Err, length, ap, refl, sym, ◌∙◌, subst}
-use Rattle.ci_config.specs.Config.{Text, Config}
-use Rattle.ci_graph.specs.Pairs.{AreWithin, HasCycle, IsAcyclic}
-use Rattle.ci_graph_layout.specs.Inclusion.{Given, IncludedJob}
-use Rattle.ci_graph_layout.specs.Layout.{lineup, pairs}
-use Rattle.ci_graph_layout.specs.Fault.{Plan, Plans, faulty, cyclic, planned, first_fault}
-use Rattle.ci_graph_layout.specs.declared.fault.GraphCode.{GraphCode}
-use Rattle.ci_graph_layout.specs.declared.fault.GraphCode.TheVariants.{G3}
+use Rattle.std.proofs.Common.{◌≡◌, ℕ, List, Some, None, Ok, Err, length, ap, sym, ◌∙◌, subst}
+use Rattle.ci_graph_layout.specs.Prelude.{Text, Config, AreWithin, HasCycle, IsAcyclic, Given, IncludedJob, lineup, pairs, Plan, Plans, faulty, cyclic, planned, first_fault}
+use Rattle.ci_graph_layout.specs.Prelude.{GraphCode, G3}
 use Rattle.ci_graph_layout.proofs.Within.{pairs_within}
 
 first_same : (g : Given) (c : Config) (stages : List Text) (jobs : List IncludedJob) → stages ≡ c.stages → jobs ≡ lineup g c → first_fault c.stages (lineup g c) ≡ first_fault stages jobs
@@ -17,10 +12,6 @@ pairs_same g c stages jobs e f = ap (λ s. pairs s jobs) e ∙ ap (λ js. pairs 
 
 pub plans_fault : (g : Given) (c : Config) (stages : List Text) (jobs : List IncludedJob) (code : GraphCode) → stages ≡ c.stages → jobs ≡ lineup g c → first_fault stages jobs ≡ Some code → Plans g c (Err code)
 plans_fault g c stages jobs code e f h = faulty code (first_same g c stages jobs e f ∙ h)
-
-none_of : (o : Option GraphCode) → ((code : GraphCode) → o ≢ Some code) → o ≡ None
-none_of None h = refl
-none_of (Some code) h = absurd (h code refl)
 
 pub pairs_found : (stages : List Text) (jobs : List IncludedJob) (found : List (ℕ × ℕ)) → found ≡ pairs stages jobs → AreWithin (length jobs) found
 pairs_found stages jobs found e = subst (λ ps. AreWithin (length jobs) ps) (sym e) (pairs_within stages jobs)

@@ -2,8 +2,7 @@
 use Rattle.std.proofs.Common.{◌≡◌, ◌<◌, ◌≤◌, ◌+◌, ℕ, zero, suc, Bool, true, false, List, [], ◌∷◌, drop, length, get_or, nat_lt, refl, sym, ap, ◌∙◌, ◌++◌, map, arith}
 use Rattle.std.proofs.lemmas.List.{append-nil}
 use Rattle.std.proofs.lemmas.Bool.{cond_both, ltb-true, ltb-false, false≢true}
-use Rattle.ci_graph_layout.specs.Layout.{below}
-use Rattle.ci_graph_layout.specs.Places.{never_falls_from}
+use Rattle.ci_graph_layout.specs.Prelude.{below, never_falls_from}
 
 head : (least n : ℕ) (ns : List ℕ) → never_falls_from least (n ∷ ns) ≡ true → least ≤ n
 head least n ns h =

@@ -4,10 +4,7 @@ use Rattle.std.proofs.lemmas.Bool.{cond_both}
 use Rattle.std.proofs.lemmas.List.{length-map}
 use Rattle.std.proofs.lemmas.List.Elements.{All-nil, All-cons, All-append, All-map, All-weaker}
 use Rattle.std.specs.Str.{bytes_eq}
-use Rattle.ci_config.specs.Config.{Text, Need}
-use Rattle.ci_graph.specs.Pairs.{AreWithin}
-use Rattle.ci_graph_layout.specs.Inclusion.{IncludedJob}
-use Rattle.ci_graph_layout.specs.Layout.{put, rank, ranks, below, place_from, place_of, needed, by_needs, predecessors, pairs_from, pairs}
+use Rattle.ci_graph_layout.specs.Prelude.{Text, Need, AreWithin, IncludedJob, put, rank, ranks, below, place_from, place_of, needed, by_needs, predecessors, pairs_from, pairs}
 
 abbrev AreBelow : ℕ → List ℕ → Type 0
 AreBelow n xs = All (λ x. x < n) xs

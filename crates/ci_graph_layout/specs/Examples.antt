@@ -1,9 +1,8 @@
 -- Files and pipelines for worked examples.
 use Rattle.std.specs.Prelude.{ℕ, true, false, List, [], ◌∷◌, map, Option, Some, None, codes}
-use Rattle.ci_expr.specs.Formula.{present}
-use Rattle.ci_config.specs.Config.{Text, Need, Rule, Job, Config}
-use Rattle.ci_config.specs.Meaning.{all_stages, default_stages}
-use Rattle.ci_config.specs.declared.keyword.RuleWhen.TheVariants as rule
+use Rattle.ci_config.specs.Prelude.{present, Need, Rule, Job, Config, all_stages, default_stages}
+use Rattle.ci_config.specs.Config.{Text}
+use Rattle.ci_config.specs.declared.keyword.RuleWhen.{RuleWhen}
 use Rattle.ci_graph_layout.specs.Inclusion.{Given}
 use Rattle.ci_graph_layout.specs.Layout.{lineup, pairs}
 use Rattle.ci_graph_layout.specs.Fault.{first_fault}
@@ -48,7 +47,7 @@ abbrev pub if_a : Rule
 if_a = record { condition = Some (present (codes "A")); «when» = None; allow_failure = None; variables = [] }
 
 abbrev pub never : Rule → Rule
-never r = record r { «when» = Some rule.Never }
+never r = record r { «when» = Some RuleWhen.Never }
 
 -- a file with the default stages and these jobs
 abbrev pub file : List Job → Config

@@ -2,8 +2,8 @@
 use Rattle.std.specs.Prelude.{◌≡◌, ℕ, Bool, true, false, List, [], ◌∷◌, not, ◌&&◌, ◌||◌, if◌then◌else◌, length, Option, Some, None, Result, Ok, Err, unwrap_or, nat_lt}
 use Rattle.ci_graph.specs.Lists.{number_at}
 use Rattle.ci_graph.specs.Pairs.{HasCycle, IsAcyclic}
-use Rattle.ci_config.specs.Config.{Text, Need, Config}
-use Rattle.ci_config.specs.Meaning.{is_inner}
+use Rattle.ci_config.specs.Config.{Text}
+use Rattle.ci_config.specs.Prelude.{Need, Config, is_inner}
 use Rattle.ci_graph_layout.specs.Inclusion.{Given, IncludedJob}
 use Rattle.ci_graph_layout.specs.Layout.{rank, ranks, place_of, lineup, pairs}
 use Rattle.ci_graph_layout.specs.declared.fault.GraphCode.{GraphCode}

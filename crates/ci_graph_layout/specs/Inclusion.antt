@@ -1,16 +1,9 @@
 -- Which jobs of a file a pipeline has: those that their rules include.
 use Rattle.std.specs.Prelude.{Bool, true, false, List, [], ◌∷◌, ◌++◌, not, ◌||◌, if◌then◌else◌, filter, Option, Some, None, option_map, unwrap_or, codes}
 use Rattle.std.specs.Str.{bytes_eq}
-use Rattle.ci_values.specs.declared.when.When.{When}
-use Rattle.ci_values.specs.declared.when.When.TheVariants.{OnSuccess, OnFailure, Always, Manual}
-use Rattle.ci_values.specs.declared.when.AllowFailure.{AllowFailure}
-use Rattle.ci_values.specs.declared.when.AllowFailure.TheVariants.{No, Yes}
-use Rattle.ci_values.specs.Layers.{Variables}
-use Rattle.ci_expr.specs.Formula.{Formula}
-use Rattle.ci_expr.specs.Truth.{truth}
-use Rattle.ci_config.specs.Config.{Text, Rule, Job, Config}
+use Rattle.ci_config.specs.Prelude.{When, OnSuccess, OnFailure, Always, Manual, AllowFailure, No, Yes, Variables, Formula, truth, Rule, Job, Config}
+use Rattle.ci_config.specs.Config.{Text}
 use Rattle.ci_config.specs.declared.keyword.RuleWhen.{RuleWhen}
-use Rattle.ci_config.specs.declared.keyword.RuleWhen.TheVariants as rule
 
 -- the variables that a pipeline brings to the file: those of its request, of its project, and the predefined
 pub record Given : Type 0 where
@@ -93,12 +86,12 @@ by_rule j r w = record {
 }
 
 abbrev pub by_word : Job → Rule → RuleWhen → Option IncludedJob
-by_word j r (rule.Runs w) = Some (by_rule j r w)
-by_word j r rule.Never = None
+by_word j r (RuleWhen.Runs w) = Some (by_rule j r w)
+by_word j r RuleWhen.Never = None
 
 -- what the deciding rule says: `never` leaves the job out, and a rule without `when` leaves the job's own
 abbrev pub ruled : Job → Rule → Option IncludedJob
-ruled j r = by_word j r (unwrap_or r.«when» (rule.Runs (unwrap_or j.«when» OnSuccess)))
+ruled j r = by_word j r (unwrap_or r.«when» (RuleWhen.Runs (unwrap_or j.«when» OnSuccess)))
 
 -- a job without rules is included; one that a rule decides, as the rule says; and one whose rules none matches is left out
 abbrev pub by_rules : Job → Decision → Option IncludedJob

@@ -1,7 +1,6 @@
 -- The layers of a job's variables, as a look-up takes them.
 use Rattle.std.specs.Prelude.{List, [], ◌∷◌, ◌++◌}
-use Rattle.ci_values.specs.Layers.{Variables}
-use Rattle.ci_config.specs.Config.{Job, Config}
+use Rattle.ci_config.specs.Prelude.{Variables, Job, Config}
 use Rattle.ci_graph_layout.specs.Inclusion.{Given, own_names}
 
 -- the pipeline's, the project's, these of the job, the file's, and the predefined, which its name and stage belong to

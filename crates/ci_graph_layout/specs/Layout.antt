@@ -1,7 +1,8 @@
 -- In which order the jobs of a pipeline stand, and which of them waits for which. A job is a position in that order, from 0 on.
 use Rattle.std.specs.Prelude.{ℕ, suc, ◌+◌, Bool, List, [], ◌∷◌, ◌++◌, if◌then◌else◌, filter, map, Option, Some, None, nat_lt}
 use Rattle.std.specs.Str.{bytes_eq}
-use Rattle.ci_config.specs.Config.{Text, Need, Job, Config}
+use Rattle.ci_config.specs.Config.{Text}
+use Rattle.ci_config.specs.Prelude.{Need, Job, Config}
 use Rattle.ci_graph_layout.specs.Inclusion.{Given, IncludedJob, included}
 
 -- ---- the order

@@ -9,3 +9,4 @@ pub mod Parts
 pub mod Plans
 pub mod Examples
 pub mod Unmade
+pub mod Prelude

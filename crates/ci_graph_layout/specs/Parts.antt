@@ -1,10 +1,9 @@
 -- What a graph has of the jobs of a pipeline.
 use Rattle.std.specs.Prelude.{Bool, true, false, List, map, length, Option, Some, None, unwrap_or}
-use Rattle.ci_values.specs.declared.when.Retry.{Retry}
+use Rattle.ci_config.specs.Prelude.{Retry, Need}
 use Rattle.ci_graph.specs.JobGraph.{no_causes}
 use Rattle.ci_graph.specs.Pairs.{AreWithin, IsAcyclic}
 use Rattle.ci_graph.specs.declared.part.Part.{Part}
-use Rattle.ci_config.specs.Config.{Need}
 use Rattle.ci_graph_layout.specs.Inclusion.{IncludedJob}
 use Rattle.ci_graph_layout.specs.Fault.{Plan}
 

@@ -2,7 +2,7 @@
 use Rattle.std.specs.Prelude.{◌≡◌, ℕ, Bool, true, false, List, [], ◌∷◌, if◌then◌else◌, nat_lt}
 use Rattle.std.specs.HashMap as hash
 use Rattle.std.specs.Str.{bytes_eq}
-use Rattle.ci_values.specs.Table.{words_view}
+use Rattle.ci_config.specs.Prelude.{words_view}
 use Rattle.ci_config.specs.Config.{Text}
 use Rattle.ci_graph_layout.specs.Inclusion.{IncludedJob}
 use Rattle.ci_graph_layout.specs.Layout.{ranks, place_of}

@@ -1,7 +1,6 @@
 -- What is answered where a plan is asked.
 use Rattle.std.specs.Prelude.{Result, Ok, Err}
-use Rattle.ci_config.specs.Config.{Config}
-use Rattle.ci_config.specs.Laws.{ConfigLacksPatterns}
+use Rattle.ci_config.specs.Prelude.{Config, ConfigLacksPatterns}
 use Rattle.ci_graph_layout.specs.Inclusion.{Given}
 use Rattle.ci_graph_layout.specs.Fault as layout
 use Rattle.ci_graph_layout.specs.Fault.{Plans}

@@ -1,11 +1,7 @@
 -- What deciding the rules of a file looks for, each look once.
 use Rattle.std.specs.Prelude.{List, [], Option, Some, None, flat_map}
 use Rattle.std.specs.Global.{Vec}
-use Rattle.ci_expr.specs.Built.{Look, looks_of, same_look}
-use Rattle.ci_expr.specs.Distinct.{distinct}
-use Rattle.ci_expr.specs.declared.expr.Expr.{Expr}
-use Rattle.ci_values.specs.Layers.{Variables}
-use Rattle.ci_config.specs.View.{config_view, job_view}
+use Rattle.ci_config.specs.Prelude.{Look, looks_of, same_look, distinct, Expr, Variables, config_view, job_view}
 use Rattle.ci_config.specs.declared.rule.Rule.{Rule}
 use Rattle.ci_config.specs.declared.job.JobSpec.{JobSpec}
 use Rattle.ci_config.specs.declared.file.Config.{Config}

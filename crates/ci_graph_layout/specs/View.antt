@@ -1,8 +1,7 @@
 -- What the code has, without where it lies in memory.
 use Rattle.std.specs.Prelude.{List, map}
 use Rattle.std.specs.Global.{Vec}
-use Rattle.ci_values.specs.Layers.{layer_view}
-use Rattle.ci_config.specs.View.{job_view}
+use Rattle.ci_config.specs.Prelude.{layer_view, job_view}
 use Rattle.ci_graph_layout.specs.Inclusion as inclusion
 use Rattle.ci_graph_layout.specs.declared.given.Given.{Given}
 use Rattle.ci_graph_layout.specs.declared.inclusion.IncludedJob.{IncludedJob}

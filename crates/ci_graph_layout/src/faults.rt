@@ -1,7 +1,7 @@
 //! Why jobs give no pipeline.
 
 ghost use Rattle.std.specs.Prelude.{◌≡◌, map};
-ghost use Rattle.ci_config.specs.View.{need_view};
+ghost use Rattle.ci_config.specs.Prelude.{need_view};
 ghost use Rattle.ci_graph_layout.specs.Fault.{any, is_work, needs_many, is_unmet, lacks_need, is_later, names_later, waits_for_later, first_fault};
 ghost use Rattle.ci_graph_layout.specs.Layout.{rank, ranks};
 ghost use Rattle.ci_graph_layout.specs.Places.{IsPlaced, stages_of, jobs_of};

@@ -1,8 +1,7 @@
 //! The variables that the rules of a job see.
 
 ghost use Rattle.std.specs.Prelude.{◌≡◌, ◌++◌, IfOk, OnOk, map};
-ghost use Rattle.ci_values.specs.Layers.{layer_view};
-ghost use Rattle.ci_config.specs.View.{config_view, job_view, variable_view};
+ghost use Rattle.ci_config.specs.Prelude.{layer_view, config_view, job_view, variable_view};
 ghost use Rattle.ci_graph_layout.specs.Inclusion.{layered, seen, own_names};
 ghost use Rattle.ci_graph_layout.specs.View.{given_view};
 

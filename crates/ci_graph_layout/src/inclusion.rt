@@ -1,10 +1,7 @@
 //! Which jobs of a file a pipeline has.
 
 ghost use Rattle.std.specs.Prelude.{◌≡◌, ◌++◌, IfOk, OnOk, map, filter, flat_map, not, option_map, unwrap_or};
-ghost use Rattle.ci_expr.specs.Answered.{AreAnswered};
-ghost use Rattle.ci_expr.specs.Built.{values_of, formula_of};
-ghost use Rattle.ci_values.specs.Layers.{layer_view};
-ghost use Rattle.ci_config.specs.View.{config_view, job_view, rule_view, variable_view};
+ghost use Rattle.ci_config.specs.Prelude.{AreAnswered, values_of, formula_of, layer_view, config_view, job_view, rule_view, variable_view};
 ghost use Rattle.ci_graph_layout.specs.Inclusion.{ByRule, NoneMatches, layered, holds, deciding, names, joined, may_fail, allowing, without_rules, by_rule, ruled, included};
 ghost use Rattle.ci_graph_layout.specs.Searches.{condition_looks, rule_looks, job_looks};
 ghost use Rattle.ci_graph_layout.specs.View.{given_view, included_view};

@@ -1,8 +1,7 @@
 //! Laws of the definitions. These functions do nothing: what they ensure is what the checker proves.
 
 ghost use Rattle.std.specs.Prelude.{◌≡◌, []};
-ghost use Rattle.ci_config.specs.Laws.{ConfigLacksPatterns};
-ghost use Rattle.ci_config.specs.View.{config_view};
+ghost use Rattle.ci_config.specs.Prelude.{ConfigLacksPatterns, config_view};
 ghost use Rattle.ci_config.specs.declared.file.Config.{Config};
 ghost use Rattle.ci_graph_layout.specs.Inclusion.{Given};
 ghost use Rattle.ci_graph_layout.specs.Searches.{all_looks};

@@ -1,10 +1,7 @@
 //! The order of layers in a plan is that of `lookup`. This function does nothing: what it ensures is what the checker proves.
 
 ghost use Rattle.std.specs.Prelude.{◌≡◌, ℕ, List};
-ghost use Rattle.ci_values.specs.Layers.{Variables, value_in};
-ghost use Rattle.ci_values.specs.Table.{meaning_of};
-ghost use Rattle.ci_expr.specs.Truth.{value_of};
-ghost use Rattle.ci_config.specs.Config.{Job, Config};
+ghost use Rattle.ci_config.specs.Prelude.{Variables, value_in, meaning_of, value_of, Job, Config};
 ghost use Rattle.ci_graph_layout.specs.Inclusion.{Given, layered, seen};
 ghost use Rattle.ci_graph_layout.specs.Layering.{layers_of};
 

@@ -1,7 +1,7 @@
 //! Which job waits for which.
 
 ghost use Rattle.std.specs.Prelude.{◌≡◌, ◌++◌, IfOk, OnOk, map};
-ghost use Rattle.ci_config.specs.View.{need_view};
+ghost use Rattle.ci_config.specs.Prelude.{need_view};
 ghost use Rattle.ci_graph_layout.specs.Layout.{below, needed, predecessors, pairs};
 ghost use Rattle.ci_graph_layout.specs.Places.{IsPlaced, stages_of, jobs_of, never_falls_from};
 ghost use Rattle.ci_graph_layout.specs.View.{included_view};

@@ -3,7 +3,7 @@
 ghost use Rattle.std.specs.Prelude.{◌≡◌, ℕ, List, IfOk, map};
 ghost use Rattle.std.specs.HashMap as hash;
 ghost use Rattle.std.specs.Str.{bytes_eq};
-ghost use Rattle.ci_values.specs.Table.{words_view};
+ghost use Rattle.ci_config.specs.Prelude.{words_view};
 ghost use Rattle.ci_graph_layout.specs.Layout.{rank, ranks, place_of};
 ghost use Rattle.ci_graph_layout.specs.Places.{IsPlaced, jobs_of, never_falls_from};
 ghost use Rattle.ci_graph_layout.specs.View.{included_view};

@@ -1,8 +1,7 @@
 //! A pipeline's jobs, and which of them waits for which.
 
 ghost use Rattle.std.specs.Prelude.{IfOk};
-ghost use Rattle.ci_expr.specs.Answered.{AreAnswered};
-ghost use Rattle.ci_config.specs.View.{config_view};
+ghost use Rattle.ci_config.specs.Prelude.{AreAnswered, config_view};
 ghost use Rattle.ci_graph_layout.specs.Parts.{CanBeGraph};
 ghost use Rattle.ci_graph_layout.specs.Plans.{Gives, plan_view};
 ghost use Rattle.ci_graph_layout.specs.Searches.{all_looks};

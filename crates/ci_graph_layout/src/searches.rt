@@ -1,8 +1,7 @@
 //! What the rules of a file look for, and what that may cost.
 
 ghost use Rattle.std.specs.Prelude.{◌≡◌, nat_le, sum_by, flat_map, IfOk, OnOk};
-ghost use Rattle.ci_expr.specs.Built.{values_of, looks_view, same_look, look_cost};
-ghost use Rattle.ci_expr.specs.Distinct.{with_each};
+ghost use Rattle.ci_config.specs.Prelude.{values_of, looks_view, same_look, look_cost, with_each};
 ghost use Rattle.ci_graph_layout.specs.Searches.{rule_looks, job_looks, all_looks};
 ghost use Rattle.ci_graph_layout.specs.View.{given_view};
 

@@ -4,8 +4,8 @@ use Rattle.sqlite.specs.Store.{Ghosts}
 use Rattle.ci_machine.specs.declared.reply.Reply.{Reply}
 use Rattle.ci_machine.specs.declared.reply.Swept.{Swept}
 use Rattle.ci_machine.specs.declared.request.Seed.{Seed}
-use Rattle.ci_server.specs.Servers.{ServerOver}
-use Rattle.ci_http.specs.ReplyText.{reply_text}
+use Rattle.ci_server.specs.Prelude.{ServerOver}
+use Rattle.ci_http_messages.specs.Prelude.{reply_text}
 use Rattle.ci_http.specs.Serving.{Serves}
 
 -- The server serves the one request of these bytes, at this moment and with this seed, and is swept before that, so often at most; this is

@@ -4,7 +4,7 @@ use Rattle.ci_machine.specs.declared.reply.Body.TheVariants.{Json}
 use Rattle.ci_machine.specs.declared.reply.Code.TheVariants.{M16, M17}
 use Rattle.ci_machine.specs.declared.reply.HttpStatus.TheVariants.{Fine}
 use Rattle.ci_machine.specs.declared.reply.Reply.{Reply}
-use Rattle.ci_machine.specs.Reply.{plain, refusal}
+use Rattle.ci_machine.specs.Prelude.{plain, refusal}
 
 -- the reply of an open server
 abbrev pub healthy : Reply

@@ -2,20 +2,16 @@
 use Rattle.std.specs.Prelude.{◌≡◌, ◌⊎◌, ℕ, List, ◌++◌, Option, Result, Ok, Err}
 use Rattle.std.specs.Io.KnownBytes.{Appends}
 use Rattle.sqlite.specs.Store.{Ghosts}
-use Rattle.ci_machine.specs.declared.reply.Answer.TheVariants as answer
+use Rattle.ci_machine.specs.declared.reply.Answer.{Answer}
 use Rattle.ci_machine.specs.declared.reply.Code.TheVariants.{M16}
 use Rattle.ci_machine.specs.declared.reply.Reply.{Reply}
 use Rattle.ci_machine.specs.declared.reply.Swept.{Swept}
-use Rattle.ci_machine.specs.declared.request.Event.TheVariants as event
+use Rattle.ci_machine.specs.declared.request.Event.{Event}
 use Rattle.ci_machine.specs.declared.request.Seed.{Seed}
-use Rattle.ci_machine.specs.Reply.{refusal}
-use Rattle.ci_server.specs.Servers.{ServerOver}
-use Rattle.ci_server.specs.Server.{Handles}
+use Rattle.ci_machine.specs.Prelude.{refusal}
+use Rattle.ci_server.specs.Prelude.{ServerOver, Handles}
 use Rattle.ci_http_messages.specs.declared.route.Demand.{Demand}
-use Rattle.ci_http_messages.specs.declared.route.Demand.TheVariants as demand
-use Rattle.ci_http_messages.specs.Reading.{Message, Reading, ended, refused, request, IsReading, AwaitsBody}
-use Rattle.ci_http_messages.specs.RequestBytes.{request_in, AsksMemory}
-use Rattle.ci_http_messages.specs.Sources.{Tells}
+use Rattle.ci_http_messages.specs.Prelude.{Message, Reading, ended, refused, request, IsReading, AwaitsBody, request_in, AsksMemory, Tells}
 use Rattle.ci_http.specs.Health.{TellsHealth}
 use Rattle.ci_http.specs.Sweeping.{SweepsUpTo}
 
@@ -29,9 +25,9 @@ module _ {S L : Type 0} (g : Ghosts S) (tells : L → Swept → L → Type 0) (m
   -- handled, and the reply is the one that refuses it. To who asks whether the server is open it is told, and nothing changes: it isn't swept.
   -- The log is told of the sweeps alone.
   abbrev pub AnswersAsked : Result Demand Reply → Type 0
-  AnswersAsked (Ok (demand.Request asked)) =
-      (mid : ServerOver S) × SweepsUpTo g tells moment most old mid log last × Handles g mid (event.Request asked, moment, seed) new (answer.Reply reply)
-  AnswersAsked (Ok demand.Health) = (new ≡ old) × (last ≡ log) × TellsHealth old.closed reply
+  AnswersAsked (Ok (Demand.Request asked)) =
+      (mid : ServerOver S) × SweepsUpTo g tells moment most old mid log last × Handles g mid (Event.Request asked, moment, seed) new (Answer.Reply reply)
+  AnswersAsked (Ok Demand.Health) = (new ≡ old) × (last ≡ log) × TellsHealth old.closed reply
   AnswersAsked (Err why) = SweepsUpTo g tells moment most old new log last × (reply ≡ why)
 
   -- the reply is that to what was read

@@ -3,7 +3,7 @@
 ghost use Rattle.std.specs.Prelude.{◌≡◌, ◌<◌, ◌≤◌, ◌-◌, ◌⊎◌, ℕ, Option, List, [], Some, Ok, Err, IfOk, IfSome, IfNone, vec_len, vec_capacity};
 ghost use Rattle.ci_machine.specs.declared.reply.Reply.{Reply};
 ghost use Rattle.ci_machine.specs.declared.request.Seed.{Seed as SeedOf};
-ghost use Rattle.ci_http.specs.ReplyText.{reply_text};
+ghost use Rattle.ci_http_messages.specs.Prelude.{reply_text};
 ghost use Rattle.ci_http.specs.Serving.{Serves};
 ghost use Rattle.ci_http.specs.declared.stamps.Unstamped.{Unstamped as WhyNone};
 ghost use Rattle.ci_http.specs.Attending.{ServesSwept, LosesReply};

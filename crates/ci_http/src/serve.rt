@@ -3,17 +3,13 @@
 ghost use Rattle.std.specs.Prelude.{◌≡◌, ◌<◌, ◌≤◌, ◌+◌, ◌++◌, ◌⊎◌, [], length, true, false, Err, IfOk, OnOk, OnErr, MatchResult};
 ghost use Rattle.std.specs.Io.KnownBytes.{Appends};
 ghost use Rattle.ci_machine.specs.declared.reply.Reply.{Reply};
-ghost use Rattle.ci_http_messages.specs.Reading.{ended, IsReading};
-ghost use Rattle.ci_http_messages.specs.ReplyText.{reply_text};
-ghost use Rattle.ci_http_messages.specs.RequestBytes.{request_in, AsksMemory};
+ghost use Rattle.ci_http_messages.specs.Prelude.{ended, IsReading, reply_text, request_in, AsksMemory, Tells, TakesFront, Fails};
 ghost use Rattle.ci_machine.specs.declared.reply.Answer.TheVariants as answer;
 ghost use Rattle.ci_machine.specs.declared.request.Event.TheVariants as event;
-ghost use Rattle.ci_machine.specs.Reply.{refusal};
-ghost use Rattle.ci_server.specs.Servers.{ServerOver};
-ghost use Rattle.ci_server.specs.Server.{Handles};
+ghost use Rattle.ci_machine.specs.Prelude.{refusal};
+ghost use Rattle.ci_server.specs.Prelude.{ServerOver, Handles};
 ghost use Rattle.ci_http.specs.Sweeping.{SweepsUpTo};
 ghost use Rattle.ci_http.specs.Serving.{AnswersAsked, LacksMemory, Serves, WritesFront};
-ghost use Rattle.ci_http_messages.specs.Sources.{Tells, TakesFront, Fails};
 
 use crate::health::health_reply;
 use crate::log::Log;

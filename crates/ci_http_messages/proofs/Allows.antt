@@ -1,13 +1,9 @@
 -- No path has more than two methods.
-use Rattle.std.proofs.Common.{◌≡◌, ℕ, List, [], ◌∷◌, map, refl, ap, subst}
-use Rattle.std.specs.Prelude.{Option, Some, None, option_map}
+use Rattle.std.proofs.Common.{◌≡◌, ℕ, List, [], ◌∷◌, map, refl, ap, subst, Option, Some, None, option_map}
 use Rattle.std.specs.List.{find}
 use Rattle.ci_machine.specs.declared.reply.Method.{Method}
-use Rattle.ci_http_messages.specs.Methods.{is_text, method_text}
-use Rattle.ci_http_messages.specs.Routes.{Wanted, Asked, no_route, other_methods, asks, asked_by, asked_of, asked_in, routes_at}
+use Rattle.ci_http_messages.specs.Prelude.{is_text, method_text, Wanted, Asked, no_route, other_methods, asks, asked_by, asked_of, asked_in, routes_at, listed, methods_of}
 use Rattle.ci_http_messages.proofs.Orders.{on-path}
-use Rattle.ci_http_messages.specs.ReplyText.{listed}
-use Rattle.ci_http_messages.specs.RequestBytes.{methods_of}
 
 -- a reply can list these methods
 abbrev Lists : List Method → Type 0

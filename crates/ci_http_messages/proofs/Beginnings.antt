@@ -1,17 +1,14 @@
 -- What a text is depends on the bytes that are taken, and a beginning of these is no request.
-use Rattle.std.proofs.Common.{◌≡◌, ℕ, ◌<◌, ◌≤◌, Bool, true, false, List, [], ◌∷◌, ◌++◌, length, take, drop, refl, sym, ◌∙◌, ap, subst, arith, length-append, length-take, length-take-le, append_assoc, take-append-drop, inl, inr}
-use Rattle.std.specs.Prelude.{◌⊎◌, nat_lt, if◌then◌else◌, Option, Some, None, Result, Ok, Err, count_by}
+use Rattle.std.proofs.Common.{◌≡◌, ℕ, ◌<◌, ◌≤◌, Bool, true, false, List, [], ◌∷◌, ◌++◌, length, take, drop, refl, sym, ◌∙◌, ap, subst, arith, length-append, length-take}
+use Rattle.std.proofs.Common.{length-take-le, append_assoc, take-append-drop, inl, inr, ◌⊎◌, nat_lt, if◌then◌else◌, Option, Some, None, Result, Ok, Err, count_by}
 use Rattle.std.proofs.lemmas.List.{append_cancel_right, take-take}
 use Rattle.std.proofs.lemmas.Bool.Decides.{nat_tests}
 use Rattle.ci_machine.specs.declared.reply.Code.{Code}
 use Rattle.ci_machine.specs.declared.reply.Code.TheVariants.{H1, H2}
-use Rattle.ci_http_messages.specs.BodyLength.{body_length}
-use Rattle.ci_http_messages.specs.Head.{Head, IsHeadOf}
-use Rattle.ci_http_messages.specs.Opening.{Opening, short, too_large, opened, opening_at, opening_of, head_len, is_line_feed}
-use Rattle.ci_http_messages.specs.Reading.{Message, message, Reading, ended, refused, request, reading_by, reading_after, IsReadingAt, IsReading}
+use Rattle.ci_http_messages.specs.Prelude.{body_length, Head, IsHeadOf, Opening, short, too_large, opened, opening_at, opening_of, head_len, is_line_feed, Message, message}
+use Rattle.ci_http_messages.specs.Prelude.{Reading, ended, refused, request, reading_by, reading_after, IsReadingAt, IsReading, MAX_HEAD_BYTES, MAX_HEAD_LINES}
 use Rattle.ci_http_messages.proofs.Heads.{head_len-bounds, head_len-front, opening-head, opening-lines, opening-long}
 use Rattle.ci_http_messages.proofs.Readings.{after_body, by_few, by_enough, reading_ended}
-use Rattle.ci_http_messages.specs.declared.limits.TheConstants.{MAX_HEAD_BYTES, MAX_HEAD_LINES}
 
 -- the text has a front that opens it alike, whatever follows
 abbrev pub Cuts : List ℕ → (List ℕ → Opening) → Type 0

@@ -1,15 +1,11 @@
 -- The codes with which a request is refused while it is read.
-use Rattle.std.proofs.Common.{ℕ, Bool, true, false, List, [], ◌∷◌, sym, subst}
-use Rattle.std.specs.Prelude.{if◌then◌else◌, Option, Some, None, Result, Ok, Err, ok_or, codes, ⊤}
+use Rattle.std.proofs.Common.{ℕ, Bool, true, false, List, [], ◌∷◌, sym, subst, if◌then◌else◌, Option, Some, None, Result, Ok, Err, ok_or, codes}
+use Rattle.std.specs.Prelude.{⊤}
 use Rattle.std.specs.Str.Parse.{digits_value}
 use Rattle.ci_machine.specs.declared.reply.Code.{Code}
 use Rattle.ci_machine.specs.declared.reply.Code.TheVariants.{H1, H3, H4}
-use Rattle.ci_http_messages.specs.declared.limits.TheConstants.{MAX_BODY_BYTES}
-use Rattle.ci_http_messages.specs.BodyLength.{wants_length, length_after}
-use Rattle.ci_http_messages.specs.Fields.{values_of}
-use Rattle.ci_http_messages.specs.Head.{Head}
-use Rattle.ci_values.specs.Numbers.{is_number, within}
-use Rattle.ci_http_messages.specs.Reading.{Refuses, IsReadingCode}
+use Rattle.ci_http_messages.specs.Prelude.{MAX_BODY_BYTES, wants_length, length_after, values_of, Head, Refuses, IsReadingCode}
+use Rattle.ci_machine.specs.Prelude.{is_number, within}
 
 abbrev RefusesSo : Result ℕ Code → Type 0
 RefusesSo (Ok n) = ⊤

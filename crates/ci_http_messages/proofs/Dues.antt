@@ -1,13 +1,10 @@
 -- How many bytes a request takes, whatever follows them.
-use Rattle.std.proofs.Common.{◌≡◌, ℕ, ◌+◌, ◌<◌, ◌≤◌, List, [], ◌++◌, length, take, drop, refl, sym, ◌∙◌, ap, arith, length-append, length-take-le, take-append-drop, append_assoc, inl, inr}
-use Rattle.std.specs.Prelude.{Some, Ok, Option}
+use Rattle.std.proofs.Common.{◌≡◌, ℕ, ◌+◌, ◌<◌, ◌≤◌, List, [], ◌++◌, length, take, drop, refl, sym, ◌∙◌, ap, arith, length-append, length-take-le, take-append-drop, append_assoc}
+use Rattle.std.proofs.Common.{inl, inr, Some, Ok, Option}
 use Rattle.ci_machine.specs.declared.reply.Code.{Code}
 use Rattle.ci_machine.specs.declared.reply.Code.TheVariants.{H2}
-use Rattle.ci_http_messages.specs.BodyLength.{body_length}
-use Rattle.ci_http_messages.specs.Dues.{IsWhole}
-use Rattle.ci_http_messages.specs.Head.{Head, IsHeadOf}
-use Rattle.ci_http_messages.specs.Opening.{Opening, short, too_large, opened, opening_of}
-use Rattle.ci_http_messages.specs.Reading.{message, ended, refused, request, IsReading, Refuses}
+use Rattle.ci_http_messages.specs.Prelude.{body_length, IsWhole, Head, IsHeadOf, Opening, short, too_large, opened, opening_of, message, ended, refused, request, IsReading}
+use Rattle.ci_http_messages.specs.Prelude.{Refuses}
 use Rattle.ci_http_messages.proofs.Beginnings.{opens}
 use Rattle.ci_http_messages.proofs.Readings.{reading_ended, reading_call, reading_refused, reading_large}
 

@@ -6,17 +6,8 @@ use Rattle.matchit.specs.Rows.{RowsOf}
 use Rattle.matchit.specs.Seek.{step, seek, param_step, has_slash, segment, cuts, longest_suffix, with_suffix}
 use Rattle.matchit.specs.Level.{IsText}
 use Rattle.matchit.proofs.ParamLemmas.{one_less, drop-length}
-use Rattle.ci_http_messages.specs.Fits.{after, first_fit, all_tidy, all_open, sorted, goes_on}
+use Rattle.ci_http_messages.specs.Prelude.{after, first_fit, all_tidy, all_open, sorted, goes_on}
 use Rattle.ci_http_messages.proofs.Walks.{divide, or_else-nil, seek-nothing, seek-skip, sorted-step, tidy-step, open-step, no_catch, own-fit, seg-some, seg-slash, after-drop, after-some, after-none, length-after, long, seek-suffix, goes_on-not}
-
--- no slash: the segment is the whole
-seg-whole : (p : List ℕ) → has_slash p ≡ false → segment p ≡ p
-seg-whole [] h = refl
-seg-whole (b ∷ q) h = by (b == 47) h (seg-whole q)
-  where
-    by : (v : Bool) → cond v true (has_slash q) ≡ false → (has_slash q ≡ false → segment q ≡ q) → cond v (b ∷ []) (b ∷ segment q) ≡ b ∷ q
-    by true h ih = cc
-    by false h ih = ap (λ z. b ∷ z) (ih h)
 
 -- the suffix `/` can be cut where the segment has one and does not start with it
 cuts-slash : (b : ℕ) (p : List ℕ) → (b == 47) ≡ false → cuts (segment (b ∷ p)) (47 ∷ []) ≡ has_slash p

@@ -1,13 +1,11 @@
 -- What a path's segments ask for by a route, where they fit the route's pattern and where they don't.
-use Rattle.std.proofs.Common.{◌≡◌, ℕ, suc, List, [], ◌∷◌, length, Option, Some, None, Bool, true, false, cond, refl, sym, ap, ◌∙◌, arith, nat_eq, ltb, ◌&&◌}
-use Rattle.std.specs.Prelude.{◌||◌, not, if◌then◌else◌, option_and_then}
+use Rattle.std.proofs.Common.{◌≡◌, ℕ, suc, List, [], ◌∷◌, length, Option, Some, None, Bool, true, false, cond, refl, sym, ap, ◌∙◌, arith, nat_eq, ltb, ◌&&◌, ◌||◌, not}
+use Rattle.std.proofs.Common.{if◌then◌else◌, option_and_then}
 use Rattle.std.specs.Cmp.Lexicographic.{pointwise}
 use Rattle.std.proofs.lemmas.Bool.Decides.{nat_tests}
 use Rattle.std.proofs.lemmas.Slice.Eq.{bytes_eq-Decides}
-use Rattle.ci_values.specs.Numbers.{id_in}
-use Rattle.ci_http_messages.specs.declared.routing.operation.Operation.{Operation}
-use Rattle.ci_http_messages.specs.Patterns.{Piece, fixed, slot, pieces_fit, slot_names, slot_texts, text_at}
-use Rattle.ci_http_messages.specs.Routes.{Part, word, number, text, Takes, reads}
+use Rattle.ci_machine.specs.Prelude.{id_in}
+use Rattle.ci_http_messages.specs.Prelude.{Operation, Piece, fixed, slot, pieces_fit, slot_names, slot_texts, text_at, Part, word, number, text, Takes, reads}
 use Rattle.ci_http_messages.proofs.Walks.{and-l, and-r}
 
 -- a route's path as the router sees it

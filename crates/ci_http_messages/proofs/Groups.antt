@@ -1,22 +1,18 @@
 -- The routes of a path are those of its pattern.
-use Rattle.std.proofs.Common.{◌≡◌, ℕ, List, [], ◌∷◌, ◌++◌, length, Option, Some, None, Bool, true, false, cond, refl, sym, ap, ◌∙◌, arith, nat_eq, ◌==◌, ◌&&◌, get_or}
-use Rattle.std.specs.Prelude.{option_map, option_and_then, codes}
+use Rattle.std.proofs.Common.{◌≡◌, ℕ, List, [], ◌∷◌, ◌++◌, length, Option, Some, None, Bool, true, false, cond, refl, sym, ap, ◌∙◌, arith, nat_eq, ◌==◌, ◌&&◌, get_or, option_map}
+use Rattle.std.proofs.Common.{option_and_then, codes}
 use Rattle.std.specs.Cmp.Lexicographic.{pointwise}
 use Rattle.std.proofs.lemmas.List.{append-nil}
-use Rattle.ci_values.specs.Numbers.{id_in}
+use Rattle.ci_machine.specs.Prelude.{id_in}
 use Rattle.ci_machine.specs.declared.reply.Method.{Method}
 use Rattle.ci_machine.specs.declared.reply.Method.TheVariants.{Get}
-use Rattle.ci_machine.specs.declared.request.Subject.TheVariants as subject
-use Rattle.ci_http_messages.specs.declared.routing.operation.Operation.{Operation}
-use Rattle.ci_http_messages.specs.declared.routing.operation.Operation.TheVariants.{AskJob, UpdateJob, AppendTrace, SetFile, SetVariable, DeleteVariable, SetMode, ShowMode, CreatePipeline, ShowPipeline, CancelPipeline, ShowJob, ShowTrace, Play, CancelJob, RetryJob, Read, Health}
-use Rattle.ci_http_messages.specs.declared.routing.place.Place.{Place}
-use Rattle.ci_http_messages.specs.declared.routing.router.Pattern.{Pattern}
-use Rattle.ci_http_messages.specs.declared.routing.router.Pattern.TheVariants.{Queue, Attempt, AttemptTrace, CiFile, Variable, ResourceGroup, Creation, Pipeline, PipelineCancel, Job, JobTrace, JobPlay, JobCancel, JobRetry, Project, Pipelines, PipelineJobs, JobAttempts, JobAttemptTrace, ResourceGroups, HealthCheck}
-use Rattle.ci_http_messages.specs.Answers.{wanted}
-use Rattle.ci_http_messages.specs.Patterns.{Piece, patterns, pieces_fit, first_of, pattern_in, slot_names, slot_texts, text_at, text_of, text_in}
-use Rattle.ci_http_messages.specs.Places.{number_at, with_one, with_two, with_three, of_variable, of_group, with_key, routes_in, routes_by, LeadsTo}
-use Rattle.ci_http_messages.specs.Routes.{Body, no_body, Route, Wanted, routes, reads, with_route, routes_of, routes_at}
-use Rattle.ci_http_messages.specs.Segments.{segments}
+use Rattle.ci_machine.specs.declared.request.Subject.{Subject}
+use Rattle.ci_http_messages.specs.Prelude.{Operation, AskJob, UpdateJob, AppendTrace, SetFile, SetVariable, DeleteVariable, SetMode, ShowMode, CreatePipeline, ShowPipeline}
+use Rattle.ci_http_messages.specs.Prelude.{CancelPipeline, ShowJob, ShowTrace, Play, CancelJob, RetryJob, Read, Health, Place, Pattern, Queue, Attempt, AttemptTrace, CiFile}
+use Rattle.ci_http_messages.specs.Prelude.{Variable, ResourceGroup, Creation, Pipeline, PipelineCancel, Job, JobTrace, JobPlay, JobCancel, JobRetry, Project, Pipelines}
+use Rattle.ci_http_messages.specs.Prelude.{PipelineJobs, JobAttempts, JobAttemptTrace, ResourceGroups, HealthCheck, wanted, Piece, patterns, pieces_fit, first_of, pattern_in}
+use Rattle.ci_http_messages.specs.Prelude.{slot_names, slot_texts, text_at, text_of, text_in, number_at, with_one, with_two, with_three, of_variable, of_group, with_key, routes_in}
+use Rattle.ci_http_messages.specs.Prelude.{routes_by, LeadsTo, Body, no_body, Route, Wanted, routes, reads, with_route, routes_of, routes_at, segments}
 use Rattle.ci_http_messages.proofs.Fitting.{loose, unfit, fills, reads-fills, look, text-look, count, apart, apart-none}
 use Rattle.ci_http_messages.proofs.Walks.{and-l, and-r}
 
@@ -311,11 +307,11 @@ fits-4 = fits-one (codes "id") (row 4) SetFile refl refl (λ t. refl) (λ n. ref
 
 fits-5 : Fits (alone 5 JobAttemptTrace)
 unfolding routes
-fits-5 = fits-three (row 5) (λ i k l. Read i (subject.Trace k l)) refl (λ t u v. refl) (λ i n k. refl)
+fits-5 = fits-three (row 5) (λ i k l. Read i (Subject.Trace k l)) refl (λ t u v. refl) (λ i n k. refl)
 
 fits-6 : Fits (alone 6 JobAttempts)
 unfolding routes
-fits-6 = fits-two (row 6) (λ i k. Read i (subject.Attempts k)) refl (λ t u. refl) (λ i n. refl)
+fits-6 = fits-two (row 6) (λ i k. Read i (Subject.Attempts k)) refl (λ t u. refl) (λ i n. refl)
 
 fits-7 : Fits (alone 7 JobCancel)
 unfolding routes
@@ -343,7 +339,7 @@ fits-12 = fits-two (row 12) CancelPipeline refl (λ t u. refl) (λ i n. refl)
 
 fits-13 : Fits (alone 13 PipelineJobs)
 unfolding routes
-fits-13 = fits-two (row 13) (λ i k. Read i (subject.Jobs k)) refl (λ t u. refl) (λ i n. refl)
+fits-13 = fits-two (row 13) (λ i k. Read i (Subject.Jobs k)) refl (λ t u. refl) (λ i n. refl)
 
 fits-14 : Fits (alone 14 Pipeline)
 unfolding routes
@@ -351,7 +347,7 @@ fits-14 = fits-two (row 14) ShowPipeline refl (λ t u. refl) (λ i n. refl)
 
 fits-15 : Fits (alone 15 Pipelines)
 unfolding routes
-fits-15 = fits-one (codes "id") (row 15) (λ i. Read i subject.Pipelines) refl refl (λ t. refl) (λ n. refl)
+fits-15 = fits-one (codes "id") (row 15) (λ i. Read i Subject.Pipelines) refl refl (λ t. refl) (λ n. refl)
 
 fits-16 : Fits (alone 16 Creation)
 unfolding routes
@@ -363,7 +359,7 @@ fits-17 = fits-key of_group ShowMode SetMode (row 17) (row 18) refl refl (λ t u
 
 fits-19 : Fits (alone 19 ResourceGroups)
 unfolding routes
-fits-19 = fits-one (codes "id") (row 19) (λ i. Read i subject.ResourceGroups) refl refl (λ t. refl) (λ n. refl)
+fits-19 = fits-one (codes "id") (row 19) (λ i. Read i Subject.ResourceGroups) refl refl (λ t. refl) (λ n. refl)
 
 fits-20 : Fits (both 20 21 Variable)
 unfolding routes
@@ -371,7 +367,7 @@ fits-20 = fits-key of_variable DeleteVariable SetVariable (row 20) (row 21) refl
 
 fits-22 : Fits (alone 22 Project)
 unfolding routes
-fits-22 = fits-one (codes "id") (row 22) (λ i. Read i subject.Project) refl refl (λ t. refl) (λ n. refl)
+fits-22 = fits-one (codes "id") (row 22) (λ i. Read i Subject.Project) refl refl (λ t. refl) (λ n. refl)
 
 good : Good groups
 unfolding routes

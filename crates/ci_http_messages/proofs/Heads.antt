@@ -1,15 +1,14 @@
 -- The first empty line of a text that grows at its end.
-use Rattle.ci_http_messages.specs.Sources.{Tells, TakesFront}
+use Rattle.ci_http_messages.specs.Prelude.{Tells, TakesFront, empty_line, head_len, Opening, short, too_large, opened, opening_at, opening_of, is_line_feed, MAX_HEAD_BYTES}
+use Rattle.ci_http_messages.specs.Prelude.{MAX_HEAD_LINES}
 use Rattle.std.specs.Io.KnownBytes.{Consumes, IsAtEnd}
-use Rattle.std.proofs.Common.{◌≡◌, ℕ, zero, suc, ◌+◌, ◌-◌, ◌<◌, ◌≤◌, Bool, true, false, List, [], ◌∷◌, ◌++◌, length, take, drop, refl, sym, ◌∙◌, ap, subst, arith, length-drop, length-take, length-append, append_assoc, get_or}
+use Rattle.std.proofs.Common.{◌≡◌, ℕ, zero, suc, ◌+◌, ◌-◌, ◌<◌, ◌≤◌, Bool, true, false, List, [], ◌∷◌, ◌++◌, length, take, drop, refl, sym, ◌∙◌, ap, subst, arith, length-drop}
+use Rattle.std.proofs.Common.{length-take, length-append, append_assoc, get_or, nat_eq, nat_lt, if◌then◌else◌, Option, Some, None, option_map, count_by}
 use Rattle.std.proofs.lemmas.List.{take-append-le, take-take, take_all, append-nil}
-use Rattle.std.specs.Prelude.{nat_eq, nat_lt, if◌then◌else◌, Option, Some, None, option_map, count_by}
 use Rattle.std.specs.List.{starts_with, ends_with}
 use Rattle.std.specs.Cmp.Lexicographic.{pointwise, unequal, as_long}
 use Rattle.std.proofs.Math.Seq.{take-append-add, take-append_seam, drop-append_seam}
 use Rattle.std.proofs.lemmas.Bool.Decides.{nat_tests}
-use Rattle.ci_http_messages.specs.Opening.{empty_line, head_len, Opening, short, too_large, opened, opening_at, opening_of, is_line_feed}
-use Rattle.ci_http_messages.specs.declared.limits.TheConstants.{MAX_HEAD_BYTES, MAX_HEAD_LINES}
 
 abbrev starts : List ℕ → Bool
 starts l = starts_with nat_eq l empty_line

@@ -1,15 +1,12 @@
 -- No body is longer than the limit.
-use Rattle.std.proofs.Common.{◌≡◌, ℕ, ◌≤◌, Bool, true, false, List, [], ◌∷◌, subst, arith}
+use Rattle.std.proofs.Common.{◌≡◌, ℕ, ◌≤◌, Bool, true, false, List, [], ◌∷◌, subst, arith, if◌then◌else◌, nat_lt, Some, None, Result, Ok, Err, ok_or, codes}
 use Rattle.std.proofs.lemmas.Bool.{cond_both, ltb-false}
-use Rattle.std.specs.Prelude.{if◌then◌else◌, nat_lt, Some, None, Result, Ok, Err, ok_or, codes, ⊤}
+use Rattle.std.specs.Prelude.{⊤}
 use Rattle.std.specs.Str.Parse.{digits_value}
 use Rattle.ci_machine.specs.declared.reply.Code.{Code}
 use Rattle.ci_machine.specs.declared.reply.Code.TheVariants.{H1, H3, H4}
-use Rattle.ci_http_messages.specs.declared.limits.TheConstants.{MAX_BODY_BYTES}
-use Rattle.ci_http_messages.specs.BodyLength.{wants_length, length_after, body_length}
-use Rattle.ci_http_messages.specs.Fields.{values_of}
-use Rattle.ci_http_messages.specs.Head.{Head}
-use Rattle.ci_values.specs.Numbers.{is_number, within}
+use Rattle.ci_http_messages.specs.Prelude.{MAX_BODY_BYTES, wants_length, length_after, body_length, values_of, Head}
+use Rattle.ci_machine.specs.Prelude.{is_number, within}
 
 abbrev IsWithin : Result ℕ Code → Type 0
 IsWithin (Ok n) = n ≤ MAX_BODY_BYTES

@@ -1,14 +1,12 @@
 -- How many line feeds a head has, and what a head that is read as a whole says of others.
-use Rattle.std.proofs.Common.{◌≡◌, ℕ, ◌+◌, ◌≤◌, List, [], ◌∷◌, ◌++◌, length, drop, refl, sym, ◌∙◌, ap, subst, arith, length-drop}
-use Rattle.std.specs.Prelude.{count_by}
+use Rattle.std.proofs.Common.{◌≡◌, ℕ, ◌+◌, ◌≤◌, List, [], ◌∷◌, ◌++◌, length, drop, refl, sym, ◌∙◌, ap, subst, arith, length-drop, count_by}
 use Rattle.std.specs.List.{flat_map}
 use Rattle.std.proofs.lemmas.List.{append-nil}
 use Rattle.std.proofs.lemmas.List.Sums.{sum_by-append}
 use Rattle.httparse.specs.Grammar.{LineEnd, crlf, lf, print_end, Field, print_field, print_section, RequestHead, print_blank, print_version, ReadsRequest}
 use Rattle.httparse.specs.Spans.{RequestOverflows}
 use Rattle.httparse.proofs.GrammarLemmas.{print_request-append, request_unique}
-use Rattle.ci_http_messages.specs.Opening.{is_line_feed}
-use Rattle.ci_http_messages.specs.declared.limits.TheConstants.{MAX_HEAD_LINES}
+use Rattle.ci_http_messages.specs.Prelude.{is_line_feed, MAX_HEAD_LINES}
 
 abbrev feeds : List ℕ → ℕ
 feeds l = count_by is_line_feed l

@@ -6,9 +6,7 @@ use Rattle.std.proofs.lemmas.Str.{IsUtf8-from_ascii}
 use Rattle.matchit.specs.Params.{walk, part_of, named, AllText}
 use Rattle.matchit.specs.Rows.{RowsOf}
 use Rattle.matchit.specs.Router.{RouteOf}
-use Rattle.ci_http_messages.specs.Fits.{fits, tokens, tidy, first_fit}
-use Rattle.ci_http_messages.specs.Patterns.{Piece, fixed, slot, pieces_fit, slot_names, slot_texts, text_at, text_of}
-use Rattle.ci_http_messages.specs.Segments.{segments}
+use Rattle.ci_http_messages.specs.Prelude.{fits, tokens, tidy, first_fit, Piece, fixed, slot, pieces_fit, slot_names, slot_texts, text_at, text_of, segments}
 use Rattle.ci_http_messages.proofs.Walks.{and-l, and-r}
 use Rattle.ci_http_messages.proofs.Splits.{plain, fits-pieces}
 use Rattle.ci_http_messages.proofs.Takes.{seconds, slots, walk-taken}

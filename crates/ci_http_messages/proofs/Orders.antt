@@ -1,20 +1,14 @@
 -- The routes of a path: one for each method, in the order of the methods' names.
-use Rattle.std.proofs.Common.{◌≡◌, ◌≤◌, ℕ, List, [], ◌∷◌, length, Option, Some, None, Bool, true, false, cond, refl, sym, subst, ◌∙◌, arith}
-use Rattle.std.specs.Prelude.{map, filter, codes}
+use Rattle.std.proofs.Common.{◌≡◌, ◌≤◌, ℕ, List, [], ◌∷◌, length, Option, Some, None, Bool, true, false, cond, refl, sym, subst, ◌∙◌, arith, map, filter, codes}
 use Rattle.std.proofs.lemmas.Slice.Eq.{bytes_eq-Decides}
 use Rattle.ci_machine.specs.declared.reply.Method.{Method}
-use Rattle.ci_machine.specs.declared.request.Subject.TheVariants as subject
-use Rattle.ci_http_messages.specs.declared.routing.operation.Operation.{Operation}
-use Rattle.ci_http_messages.specs.declared.routing.operation.Operation.TheVariants.{AskJob, UpdateJob, AppendTrace, SetFile, SetVariable, DeleteVariable, SetMode, ShowMode, CreatePipeline, ShowPipeline, CancelPipeline, ShowJob, ShowTrace, Play, CancelJob, RetryJob, Read, Health}
+use Rattle.ci_machine.specs.declared.request.Subject.{Subject}
+use Rattle.ci_http_messages.specs.Prelude.{Operation, AskJob, UpdateJob, AppendTrace, SetFile, SetVariable, DeleteVariable, SetMode, ShowMode, CreatePipeline, ShowPipeline}
+use Rattle.ci_http_messages.specs.Prelude.{CancelPipeline, ShowJob, ShowTrace, Play, CancelJob, RetryJob, Read, Health, wanted, Pattern, Queue, Attempt, AttemptTrace, CiFile}
+use Rattle.ci_http_messages.specs.Prelude.{Variable, ResourceGroup, Creation, Pipeline, PipelineCancel, Job, JobTrace, JobPlay, JobCancel, JobRetry, Project, Pipelines}
+use Rattle.ci_http_messages.specs.Prelude.{PipelineJobs, JobAttempts, JobAttemptTrace, ResourceGroups, HealthCheck, ascends, is_text, method_text, patterns, pattern_in, text_in}
+use Rattle.ci_http_messages.specs.Prelude.{number_at, with_one, with_two, with_three, of_variable, of_group, with_key, routes_in, Wanted, routes_at}
 use Rattle.ci_machine.specs.declared.reply.Method.TheVariants.{Delete, Get, Patch, Post, Put}
-use Rattle.ci_http_messages.specs.Answers.{wanted}
-use Rattle.ci_http_messages.specs.declared.routing.router.Pattern.{Pattern}
-use Rattle.ci_http_messages.specs.declared.routing.router.Pattern.TheVariants.{Queue, Attempt, AttemptTrace, CiFile, Variable, ResourceGroup, Creation, Pipeline, PipelineCancel, Job, JobTrace, JobPlay, JobCancel, JobRetry, Project, Pipelines, PipelineJobs, JobAttempts, JobAttemptTrace, ResourceGroups, HealthCheck}
-use Rattle.ci_http_messages.specs.Laws.{ascends}
-use Rattle.ci_http_messages.specs.Methods.{is_text, method_text}
-use Rattle.ci_http_messages.specs.Patterns.{patterns, pattern_in, text_in}
-use Rattle.ci_http_messages.specs.Places.{number_at, with_one, with_two, with_three, of_variable, of_group, with_key, routes_in}
-use Rattle.ci_http_messages.specs.Routes.{Wanted, routes_at}
 use Rattle.ci_http_messages.proofs.Groups.{by_pattern, at-path}
 
 -- what holds of no route, of one, and of the two of a variable and of a resource group holds of the routes of each path
@@ -52,12 +46,12 @@ module _ (P : List (Method × Wanted) → Type 0) (none : P []) (alone : (m : Me
   on-pattern JobPlay id n m key = on-two Post Play id n
   on-pattern JobCancel id n m key = on-two Post CancelJob id n
   on-pattern JobRetry id n m key = on-two Post RetryJob id n
-  on-pattern Project id n m key = on-one Get (λ i. Read i subject.Project) id
-  on-pattern Pipelines id n m key = on-one Get (λ i. Read i subject.Pipelines) id
-  on-pattern PipelineJobs id n m key = on-two Get (λ i k. Read i (subject.Jobs k)) id n
-  on-pattern JobAttempts id n m key = on-two Get (λ i k. Read i (subject.Attempts k)) id n
-  on-pattern JobAttemptTrace id n m key = on-three Get (λ i k l. Read i (subject.Trace k l)) id n m
-  on-pattern ResourceGroups id n m key = on-one Get (λ i. Read i subject.ResourceGroups) id
+  on-pattern Project id n m key = on-one Get (λ i. Read i Subject.Project) id
+  on-pattern Pipelines id n m key = on-one Get (λ i. Read i Subject.Pipelines) id
+  on-pattern PipelineJobs id n m key = on-two Get (λ i k. Read i (Subject.Jobs k)) id n
+  on-pattern JobAttempts id n m key = on-two Get (λ i k. Read i (Subject.Attempts k)) id n
+  on-pattern JobAttemptTrace id n m key = on-three Get (λ i k l. Read i (Subject.Trace k l)) id n m
+  on-pattern ResourceGroups id n m key = on-one Get (λ i. Read i Subject.ResourceGroups) id
   on-pattern HealthCheck id n m key = alone Get (wanted Health)
 
   on-found : (p : Option Pattern) (id n m key : Option (List ℕ)) → P (by_pattern p id n m key)

@@ -1,13 +1,12 @@
 -- The first empty line of a text, place by place.
-use Rattle.std.proofs.Common.{◌≡◌, ℕ, ◌+◌, ◌-◌, ◌<◌, ◌≤◌, Bool, true, false, List, [], length, take, drop, refl, sym, ◌∙◌, ap, arith, length-drop, get_or}
+use Rattle.std.proofs.Common.{◌≡◌, ℕ, ◌+◌, ◌-◌, ◌<◌, ◌≤◌, Bool, true, false, List, [], length, take, drop, refl, sym, ◌∙◌, ap, arith, length-drop, get_or, nat_eq, if◌then◌else◌}
+use Rattle.std.proofs.Common.{suc, min, count_by, Option, Some, None, option_map}
 use Rattle.std.proofs.lemmas.Bool.{cond-true, cond-false, lt-ltb, le-ltb}
 use Rattle.std.proofs.lemmas.List.{drop_more, take_min, take_all, get_or-drop}
-use Rattle.std.specs.Prelude.{nat_eq, if◌then◌else◌, suc, min, count_by, Option, Some, None, option_map}
 use Rattle.std.proofs.lemmas.Option.{get_or_from_slice_get}
 use Rattle.std.specs.List.{starts_with, ends_with, slice_get}
 use Rattle.std.specs.Cmp.Lexicographic.{bytes_decides}
-use Rattle.ci_http_messages.specs.declared.limits.TheConstants.{MAX_HEAD_BYTES, MAX_HEAD_LINES}
-use Rattle.ci_http_messages.specs.Opening.{empty_line, head_len, is_line_feed, short, too_large, opened, opening_at, opening_of}
+use Rattle.ci_http_messages.specs.Prelude.{MAX_HEAD_BYTES, MAX_HEAD_LINES, empty_line, head_len, is_line_feed, short, too_large, opened, opening_at, opening_of}
 
 -- from a place on
 here : (text : List ℕ) (i : ℕ) (b : Bool) → i < length text → starts_with nat_eq (drop i text) empty_line ≡ b

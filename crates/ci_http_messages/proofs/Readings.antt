@@ -1,16 +1,13 @@
 -- What was read of a text, put together.
-use Rattle.std.proofs.Common.{◌≡◌, ℕ, ◌<◌, true, false, List, [], ◌++◌, length, take, drop, refl, sym, ◌∙◌, ap, subst, arith, length-append}
-use Rattle.std.specs.Prelude.{nat_lt, if◌then◌else◌, Option, Some, None, Ok}
+use Rattle.std.proofs.Common.{◌≡◌, ℕ, ◌<◌, true, false, List, [], ◌++◌, length, take, drop, refl, sym, ◌∙◌, ap, subst, arith, length-append, nat_lt, if◌then◌else◌, Option, Some}
+use Rattle.std.proofs.Common.{None, Ok}
 use Rattle.std.specs.Io.KnownBytes.{Consumes}
 use Rattle.std.proofs.Math.Seq.{take-append_seam, drop-append_seam}
 use Rattle.std.proofs.lemmas.Bool.Decides.{nat_tests}
 use Rattle.ci_machine.specs.declared.reply.Code.{Code}
 use Rattle.ci_machine.specs.declared.reply.Code.TheVariants.{H2}
-use Rattle.ci_http_messages.specs.Opening.{short, too_large, opened, opening_of}
-use Rattle.ci_http_messages.specs.BodyLength.{body_length}
-use Rattle.ci_http_messages.specs.Head.{Head, IsHeadOf}
-use Rattle.ci_http_messages.specs.Reading.{message, ended, refused, request, reading_by, reading_after, IsReadingAt, IsReading, Refuses, AwaitsBody}
-use Rattle.ci_http_messages.specs.Sources.{Tells}
+use Rattle.ci_http_messages.specs.Prelude.{short, too_large, opened, opening_of, body_length, Head, IsHeadOf, message, ended, refused, request, reading_by, reading_after}
+use Rattle.ci_http_messages.specs.Prelude.{IsReadingAt, IsReading, Refuses, AwaitsBody, Tells}
 
 pub tells_map : (P Q : List ℕ → List ℕ → Type 0) (old new : Option (List ℕ)) → ((b r : List ℕ) → P b r → Q b r) → Tells old new P → Tells old new Q
 tells_map P Q None new f t = tt

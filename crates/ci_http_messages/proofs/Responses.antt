@@ -1,6 +1,6 @@
 -- The bytes of a reply are a response by the grammar of HTTP/1.1.
-use Rattle.std.proofs.Common.{◌≡◌, ℕ, zero, suc, ◌+◌, ◌<◌, ◌^◌, ◌%◌, Bool, true, false, List, [], ◌∷◌, ◌++◌, length, refl, sym, ◌∙◌, ap, arith, append_assoc}
-use Rattle.std.specs.Prelude.{not, map, reverse, ◌==◌, ◌&&◌, if◌then◌else◌, Option, Some, None, All, codes, decimal, unwrap_or, IfSome}
+use Rattle.std.proofs.Common.{◌≡◌, ℕ, zero, suc, ◌+◌, ◌<◌, ◌^◌, ◌%◌, Bool, true, false, List, [], ◌∷◌, ◌++◌, length, refl, sym, ◌∙◌, ap, arith, append_assoc, not, map, reverse}
+use Rattle.std.proofs.Common.{◌==◌, ◌&&◌, if◌then◌else◌, Option, Some, None, All, codes, decimal, unwrap_or, IfSome}
 use Rattle.std.specs.List.{flat_map, list_all}
 use Rattle.std.specs.Char.{is_ascii_digit}
 use Rattle.std.specs.Str.Parse.{digits_value}
@@ -13,7 +13,7 @@ use Rattle.std.proofs.lemmas.List.Elements.{All-append}
 use Rattle.std.proofs.lemmas.List.Folds.{list_all-append}
 use Rattle.std.proofs.lemmas.List.Sums.{AllPass-from_list_all, list_all-from_AllPass}
 use Rattle.http.specs.StatusCode.{reason_phrase, code_digits}
-use Rattle.httparse.specs.Grammar.{LineEnd, Field, print_field, print_section, IsField, is_token, is_token_byte, is_value_byte, is_ows, skip_ows, trim_ows, ResponseHead, print_response, IsResponseHead, ReadsResponse, status_code}
+use Rattle.httparse.specs.Grammar.{Field, print_field, IsField, is_token_byte, is_value_byte, is_ows, skip_ows, trim_ows, ResponseHead, print_response, IsResponseHead}
 use Rattle.httparse.specs.Grammar as grammar
 use Rattle.httparse.specs.Spans.{name_and_value}
 use Rattle.httparse.proofs.TrimLemmas.{AllPass-reverse, skip_ows_no, trim_ows_space}
@@ -28,11 +28,11 @@ use Rattle.ci_machine.specs.declared.reply.JobStatus.TheVariants.{Running, Succe
 use Rattle.ci_machine.specs.declared.reply.HttpStatus.{HttpStatus}
 use Rattle.ci_machine.specs.declared.reply.HttpStatus.TheVariants.{Fine, Created, Accepted, NoContent, BadRequest, Unauthorized, Forbidden, NotFound, MethodNotAllowed, LengthRequired, PayloadTooLarge, RangeNotSatisfiable, HeaderFieldsTooLarge, NotImplemented, ServiceUnavailable}
 use Rattle.ci_machine.specs.declared.reply.Reply.{Reply}
-use Rattle.ci_machine.specs.Reply.{status_text, body_text}
-use Rattle.ci_http_messages.specs.Methods.{method_text}
-use Rattle.ci_http_messages.specs.Fields.{values_of}
+use Rattle.ci_machine.specs.Reply.{status_text}
+use Rattle.ci_machine.specs.Prelude.{body_text}
+use Rattle.ci_http_messages.specs.Prelude.{method_text, values_of, number_of, allow_text, type_text, crlf, status_line, job_status_line, range_line, allow_line, type_line}
+use Rattle.ci_http_messages.specs.Prelude.{length_line, reply_text, length_values, IsResponse}
 use Rattle.ci_http_messages.proofs.Values.{values-append}
-use Rattle.ci_http_messages.specs.ReplyText.{number_of, allow_text, type_text, crlf, status_line, job_status_line, range_line, allow_line, type_line, length_line, reply_text, length_values, IsResponse}
 
 abbrev field : List ℕ → List ℕ → Field
 field name value = record { name = name; raw = 32 ∷ value; end = grammar.crlf }

@@ -1,9 +1,7 @@
 -- The slots of a pattern take the segments that stand at them.
 use Rattle.std.proofs.Common.{◌≡◌, ℕ, List, [], ◌∷◌, ◌++◌, Bool, true, false, cond, refl, sym, ap, ◌∙◌, arith, ◌==◌, ltb, ◌&&◌}
 use Rattle.std.proofs.lemmas.Bool.Decides.{nat_tests}
-use Rattle.ci_http_messages.specs.Fits.{after, fits, tokens}
-use Rattle.ci_http_messages.specs.Patterns.{Piece, fixed, slot, slot_texts}
-use Rattle.ci_http_messages.specs.Segments.{onto, segments}
+use Rattle.ci_http_messages.specs.Prelude.{after, fits, tokens, Piece, fixed, slot, slot_texts, onto, segments}
 use Rattle.ci_http_messages.proofs.Walks.{and-l, and-r}
 use Rattle.ci_http_messages.proofs.Takes.{before, taken}
 use Rattle.ci_http_messages.proofs.Splits.{plain_word, plain, rest_of, rest-onto, stray}

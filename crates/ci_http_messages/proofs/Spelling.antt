@@ -1,18 +1,15 @@
 -- Each route's operation names the path that asks for it.
-use Rattle.std.proofs.Common.{◌≡◌, ℕ, List, [], ◌∷◌, ◌++◌, Option, Some, None, Bool, true, false, cond, refl, sym, ap, subst, ◌∙◌, arith, nat_eq, ◌==◌}
-use Rattle.std.specs.Prelude.{if◌then◌else◌, option_and_then, unwrap_or, decimal, map}
+use Rattle.std.proofs.Common.{◌≡◌, ℕ, List, [], ◌∷◌, ◌++◌, Option, Some, None, Bool, true, false, cond, refl, sym, ap, subst, ◌∙◌, arith, nat_eq, ◌==◌, if◌then◌else◌}
+use Rattle.std.proofs.Common.{option_and_then, unwrap_or, decimal, map}
 use Rattle.std.specs.List.{find}
 use Rattle.std.specs.Cmp.Lexicographic.{pointwise}
 use Rattle.std.proofs.lemmas.Bool.Decides.{nat_tests}
 use Rattle.std.proofs.lemmas.Slice.Eq.{bytes_eq-Decides}
-use Rattle.ci_values.specs.Numbers.{id_in}
+use Rattle.ci_machine.specs.Prelude.{id_in}
 use Rattle.ci_values.proofs.Ids.{id_is}
 use Rattle.ci_machine.specs.declared.reply.Method.{Method}
-use Rattle.ci_http_messages.specs.declared.routing.operation.Operation.{Operation}
-use Rattle.ci_http_messages.specs.Laws.{path_text}
-use Rattle.ci_http_messages.specs.Methods.{is_text, method_text}
-use Rattle.ci_http_messages.specs.Routes.{Part, word, number, text, Takes, Route, Wanted, asks, routes, reads, with_route, routes_of, routes_at, asked_by, asked_of, asked_in}
-use Rattle.ci_http_messages.specs.Segments.{segments, onto}
+use Rattle.ci_http_messages.specs.Prelude.{Operation, path_text, is_text, method_text, Part, word, number, text, Takes, Route, Wanted, asks, routes, reads, with_route, routes_of}
+use Rattle.ci_http_messages.specs.Prelude.{routes_at, asked_by, asked_of, asked_in, segments, onto}
 use Rattle.ci_http_messages.proofs.Splits.{segments-some}
 
 some-is : {A : Type 0} (d x y : A) → Some x ≡ Some y → x ≡ y

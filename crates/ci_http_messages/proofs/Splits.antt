@@ -3,9 +3,7 @@ use Rattle.std.proofs.Common.{◌≡◌, ℕ, suc, List, [], ◌∷◌, ◌++◌
 use Rattle.std.proofs.lemmas.Bool.Decides.{nat_tests}
 use Rattle.std.specs.Cmp.Lexicographic.{pointwise}
 use Rattle.matchit.specs.Rows.{RowsOf}
-use Rattle.ci_http_messages.specs.Fits.{after, fits, tokens, first_fit}
-use Rattle.ci_http_messages.specs.Patterns.{Piece, fixed, slot, pieces_fit, first_of, pattern_in}
-use Rattle.ci_http_messages.specs.Segments.{onto, segments}
+use Rattle.ci_http_messages.specs.Prelude.{after, fits, tokens, first_fit, Piece, fixed, slot, pieces_fit, first_of, pattern_in, onto, segments}
 use Rattle.ci_http_messages.proofs.Walks.{and-l, and-r}
 
 -- a word has no slash and only bytes

@@ -1,19 +1,16 @@
 -- The router's rows are the table of pieces.
 use Rattle.std.proofs.Common.{◌≡◌, ℕ, suc, ◌<◌, List, [], ◌∷◌, length, get_or, Option, Some, None, Bool, true, false, cond, refl, sym, ap, ◌∙◌, arith, Fits, w8}
+use Rattle.std.proofs.Common.{◌==◌}
 use Rattle.matchit.proofs.OnLiterals.{matchit_on_literals}
 use Rattle.matchit.specs.Rows.{RowsOf}
 use Rattle.matchit.specs.Router.{RouteOf}
 use Rattle.matchit.specs.Seek.{first}
 use Rattle.matchit.specs.Level.{IsText}
-use Rattle.ci_http_messages.specs.declared.routing.router.Pattern.{Pattern}
-use Rattle.ci_http_messages.specs.Table.{first_rows, table}
+use Rattle.ci_http_messages.specs.Prelude.{Pattern, first_rows, table, patterns, pattern_in, text_in, first_of, segments, fits, first_fit}
+use Rattle.ci_http_messages.specs.Prelude.{all_tidy, sorted}
 use Rattle.std.specs.Str.{IsUtf8}
 use Rattle.std.proofs.lemmas.Bool.Decides.{nat_tests}
-use Rattle.std.proofs.Common.{◌==◌}
 use Rattle.ci_http_messages.proofs.Named.{AreRows, Gives, rows-give}
-use Rattle.ci_http_messages.specs.Patterns.{patterns, pattern_in, text_in, text_of, first_of, pieces_fit, text_at, Piece}
-use Rattle.ci_http_messages.specs.Segments.{segments}
-use Rattle.ci_http_messages.specs.Fits.{fits, first_fit, all_tidy, sorted}
 use Rattle.ci_http_messages.proofs.Firsts.{first-fit}
 use Rattle.ci_http_messages.proofs.Splits.{token_rows, all_plain, first-in}
 
@@ -86,21 +83,3 @@ gives key path e x u h =
     let f2 = rw w.1 at f in
     let u2 = rw w.1 at u in
     rw w.1 (rows-give key table patterns w.0 e table-rows u2 f2)
-
--- a path without a route
-lacks : (rs : List (List Piece × Pattern)) (key : List ℕ) (ss : List (List ℕ)) → None ≡ first_of rs ss → text_of key rs ss ≡ None
-lacks [] key ss h = refl
-lacks ((ps, k) ∷ rs) key ss h = by (pieces_fit ps ss) h (lacks rs key ss)
-  where
-    by : (v : Bool) → None ≡ cond v (Some k) (first_of rs ss) → (None ≡ first_of rs ss → text_of key rs ss ≡ None)
-        → cond v (text_at key ps ss) (text_of key rs ss) ≡ None
-    by true h ih = cc
-    by false h ih = ih h
-
-pub no-text : (key path : List ℕ) → None ≡ pattern_in patterns path → text_in key patterns path ≡ None
-no-text key [] h = refl
-no-text key (b ∷ p) h = by (b == 47) h
-  where
-    by : (v : Bool) → None ≡ cond v (first_of patterns (segments p)) None → cond v (text_of key patterns (segments p)) None ≡ None
-    by true h = lacks patterns key (segments p) h
-    by false h = refl

@@ -4,7 +4,7 @@ use Rattle.std.proofs.lemmas.Bool.Decides.{nat_tests}
 use Rattle.matchit.specs.Params.{walk, wild_from, wild_stop, part_of, after_token}
 use Rattle.matchit.specs.Seek.{segment, has_slash}
 use Rattle.matchit.proofs.ParamsLemmas.{walk-next}
-use Rattle.ci_http_messages.specs.Fits.{after, fits, opens, tidy}
+use Rattle.ci_http_messages.specs.Prelude.{after, fits, opens, tidy}
 use Rattle.ci_http_messages.proofs.Walks.{and-l, and-r, after-none, after-some}
 
 -- the text before the first slash

@@ -4,7 +4,7 @@ use Rattle.std.proofs.lemmas.Bool.Decides.{nat_tests}
 use Rattle.std.specs.Str.{IsUtf8}
 use Rattle.std.proofs.lemmas.Str.{IsUtf8-take, IsUtf8-drop, IsUtf8-nil, IsCharBoundary-before_ascii, IsCharBoundary-after_ascii}
 use Rattle.matchit.specs.Seek.{has_slash}
-use Rattle.ci_http_messages.specs.Fits.{after, fits}
+use Rattle.ci_http_messages.specs.Prelude.{after, fits}
 use Rattle.ci_http_messages.proofs.Walks.{and-l, and-r, after-some, after-none}
 use Rattle.ci_http_messages.proofs.Takes.{before, taken, before-length, before-drop, before-all, drop-get}
 

@@ -1,10 +1,7 @@
 -- A text is one request at most.
-use Rattle.std.proofs.Common.{◌≡◌, ℕ, List, [], refl, sym, ◌∙◌, ap}
-use Rattle.std.specs.Prelude.{Option, Some, None}
+use Rattle.std.proofs.Common.{◌≡◌, ℕ, List, [], refl, sym, ◌∙◌, ap, Option, Some, None}
 use Rattle.httparse.proofs.GrammarLemmas.{request_unique}
-use Rattle.ci_http_messages.specs.Opening.{Opening, short, too_large, opened, opening_of}
-use Rattle.ci_http_messages.specs.Head.{Head, head_parts, IsHeadOf}
-use Rattle.ci_http_messages.specs.Reading.{Reading, reading_after, IsReadingAt, IsReading}
+use Rattle.ci_http_messages.specs.Prelude.{Opening, short, too_large, opened, opening_of, Head, head_parts, IsHeadOf, Reading, reading_after, IsReadingAt, IsReading}
 
 pub one_head : (front : List ℕ) (a b : Option Head) → IsHeadOf front a → IsHeadOf front b → a ≡ b
 one_head front None None x y = refl

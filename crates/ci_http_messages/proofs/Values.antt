@@ -1,14 +1,12 @@
 -- The values of a name, one field after another.
-use Rattle.std.proofs.Common.{◌≡◌, ℕ, ◌+◌, ◌<◌, Bool, true, false, List, [], ◌∷◌, ◌++◌, length, take, drop, map, refl, sym, ◌∙◌, ap, subst, arith, length-append, get_or, cond, take-append-drop}
-use Rattle.std.specs.Prelude.{IsTrue, filter}
+use Rattle.std.proofs.Common.{◌≡◌, ℕ, ◌+◌, ◌<◌, Bool, true, false, List, [], ◌∷◌, ◌++◌, length, take, drop, map, refl, sym, ◌∙◌, ap, subst, arith, length-append, get_or, cond}
+use Rattle.std.proofs.Common.{take-append-drop, IsTrue, filter}
 use Rattle.std.specs.Bool.{Decides}
 use Rattle.std.proofs.lemmas.List.{append-nil, take_more, map-append}
 use Rattle.std.proofs.lemmas.List.Elements.{filter-append}
 use Rattle.httparse.specs.Spans.{header_bytes}
 use Rattle.httparse.specs.declared.spans.HeaderSpan.{HeaderSpan}
-use Rattle.ci_http_messages.specs.Fields.{values_of, is_named, Shows}
-use Rattle.ci_http_messages.specs.declared.fields.Found.{Found}
-use Rattle.ci_http_messages.specs.declared.fields.Found.TheVariants.{Absent, Once, Twice}
+use Rattle.ci_http_messages.specs.Prelude.{values_of, is_named, Shows, Found, Absent, Once, Twice}
 
 pub same_test : {P : Type 0} (r b : Bool) → (IsTrue r → P) × (P → IsTrue r) → Decides b P → r ≡ b
 same_test true true h d = refl

@@ -5,7 +5,7 @@ use Rattle.std.specs.Cmp.Lexicographic.{pointwise}
 use Rattle.matchit.specs.Rows.{RowsOf, comes_before}
 use Rattle.matchit.specs.Seek.{own, step, or_else, seek, param_step, has_slash, segment, cuts, longest_from, with_suffix}
 use Rattle.matchit.proofs.ParamLemmas.{one_less}
-use Rattle.ci_http_messages.specs.Fits.{after, fits, opens, tidy, first_fit, all_tidy, all_open, ahead, sorted, goes_on}
+use Rattle.ci_http_messages.specs.Prelude.{after, fits, opens, tidy, first_fit, all_tidy, all_open, ahead, sorted, goes_on}
 
 pub and-l : (a b : Bool) → (a && b) ≡ true → a ≡ true
 and-l true b h = refl

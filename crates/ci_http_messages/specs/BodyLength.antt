@@ -7,7 +7,7 @@ use Rattle.ci_machine.specs.declared.reply.Code.{Code}
 use Rattle.ci_machine.specs.declared.reply.Code.TheVariants.{H1, H3, H4, H8}
 use Rattle.ci_http_messages.specs.Fields.{values_of}
 use Rattle.ci_http_messages.specs.Head.{Head}
-use Rattle.ci_values.specs.Numbers.{is_number, within}
+use Rattle.ci_machine.specs.Prelude.{is_number, within}
 use Rattle.ci_http_messages.specs.declared.limits.TheConstants.{MAX_BODY_BYTES}
 
 -- a request of this method says how long its body is

@@ -4,8 +4,7 @@ use Rattle.std.specs.List.{find}
 use Rattle.std.specs.Str.{bytes_eq}
 use Rattle.serde_json.specs.Data.{Data, Items, no_items, item}
 use Rattle.serde_json.specs.Find.{get, as_bool, as_str, as_array}
-use Rattle.ci_values.specs.Names.{is_name}
-use Rattle.ci_machine.specs.Bodies.{source_text}
+use Rattle.ci_machine.specs.Prelude.{is_name, source_text}
 use Rattle.ci_machine.specs.declared.records.RefKind.{RefKind}
 use Rattle.ci_machine.specs.declared.records.RefKind.TheVariants.{Branch, Tag}
 use Rattle.ci_machine.specs.declared.records.Source.{Source}

@@ -28,10 +28,6 @@ module _ {K : Type 0} where
   first_fit [] path = None
   first_fit ((t, k) ∷ rest) path = cond (fits t path) (Some k) (first_fit rest path)
 
-  abbrev pub param_fit : RowsOf K → List ℕ → Option K
-  param_fit rs [] = None
-  param_fit rs (b ∷ p) = cond (b == 47) None (first_fit rs (after p))
-
   abbrev pub all_tidy : RowsOf K → Bool
   all_tidy [] = true
   all_tidy ((t, k) ∷ rest) = tidy t && all_tidy rest

@@ -1,6 +1,6 @@
 -- The order of methods, and the path of an operation.
 use Rattle.std.specs.Prelude.{ℕ, Bool, true, false, List, [], ◌∷◌, ◌++◌, nat_lt, ◌==◌, ◌&&◌, ◌||◌, codes, decimal}
-use Rattle.ci_machine.specs.declared.request.Subject.TheVariants as subject
+use Rattle.ci_machine.specs.declared.request.Subject.{Subject}
 use Rattle.ci_http_messages.specs.declared.routing.operation.Operation.{Operation}
 use Rattle.ci_http_messages.specs.declared.routing.operation.Operation.TheVariants.{AskJob, UpdateJob, AppendTrace, SetFile, SetVariable, DeleteVariable, SetMode, ShowMode, CreatePipeline, ShowPipeline, CancelPipeline, ShowJob, ShowTrace, Play, CancelJob, RetryJob, Read, Health}
 
@@ -39,10 +39,10 @@ path_text (ShowTrace id n) = project_path id (codes "/jobs/" ++ (decimal n ++ co
 path_text (Play id n) = project_path id (codes "/jobs/" ++ (decimal n ++ codes "/play"))
 path_text (CancelJob id n) = project_path id (codes "/jobs/" ++ (decimal n ++ codes "/cancel"))
 path_text (RetryJob id n) = project_path id (codes "/jobs/" ++ (decimal n ++ codes "/retry"))
-path_text (Read id subject.Project) = codes "/api/v4/projects/" ++ decimal id
-path_text (Read id subject.Pipelines) = project_path id (codes "/pipelines")
-path_text (Read id (subject.Jobs n)) = project_path id (codes "/pipelines/" ++ (decimal n ++ codes "/jobs"))
-path_text (Read id (subject.Attempts n)) = project_path id (codes "/jobs/" ++ (decimal n ++ codes "/attempts"))
-path_text (Read id (subject.Trace n m)) = project_path id (codes "/jobs/" ++ (decimal n ++ (codes "/attempts/" ++ (decimal m ++ codes "/trace"))))
-path_text (Read id subject.ResourceGroups) = project_path id (codes "/resource_groups")
+path_text (Read id Subject.Project) = codes "/api/v4/projects/" ++ decimal id
+path_text (Read id Subject.Pipelines) = project_path id (codes "/pipelines")
+path_text (Read id (Subject.Jobs n)) = project_path id (codes "/pipelines/" ++ (decimal n ++ codes "/jobs"))
+path_text (Read id (Subject.Attempts n)) = project_path id (codes "/jobs/" ++ (decimal n ++ codes "/attempts"))
+path_text (Read id (Subject.Trace n m)) = project_path id (codes "/jobs/" ++ (decimal n ++ (codes "/attempts/" ++ (decimal m ++ codes "/trace"))))
+path_text (Read id Subject.ResourceGroups) = project_path id (codes "/resource_groups")
 path_text Health = codes "/-/health"

@@ -26,3 +26,4 @@ pub mod Patterns
 pub mod Fits
 pub mod Table
 pub mod Laws
+pub mod Prelude

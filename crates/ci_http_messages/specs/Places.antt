@@ -1,9 +1,9 @@
 -- Where a path leads: its pattern and what stands in its slots, and the routes that it has by these.
 use Rattle.std.specs.Prelude.{◌≡◌, ℕ, List, [], ◌∷◌, Option, Some, None, option_map, option_and_then, codes}
-use Rattle.ci_values.specs.Numbers.{id_in}
+use Rattle.ci_machine.specs.Prelude.{id_in}
 use Rattle.ci_machine.specs.declared.reply.Method.{Method}
 use Rattle.ci_machine.specs.declared.reply.Method.TheVariants.{Delete, Get, Patch, Post, Put}
-use Rattle.ci_machine.specs.declared.request.Subject.TheVariants as subject
+use Rattle.ci_machine.specs.declared.request.Subject.{Subject}
 use Rattle.ci_http_messages.specs.declared.routing.operation.Operation.{Operation}
 use Rattle.ci_http_messages.specs.declared.routing.operation.Operation.TheVariants.{AskJob, UpdateJob, AppendTrace, SetFile, SetVariable, DeleteVariable, SetMode, ShowMode, CreatePipeline, ShowPipeline, CancelPipeline, ShowJob, ShowTrace, Play, CancelJob, RetryJob, Read, Health}
 use Rattle.ci_http_messages.specs.declared.routing.lookup.Entry.{Entry}
@@ -74,12 +74,12 @@ routes_in JobTrace id n m key = with_two Get ShowTrace id n
 routes_in JobPlay id n m key = with_two Post Play id n
 routes_in JobCancel id n m key = with_two Post CancelJob id n
 routes_in JobRetry id n m key = with_two Post RetryJob id n
-routes_in Project id n m key = with_one Get (λ i. Read i subject.Project) id
-routes_in Pipelines id n m key = with_one Get (λ i. Read i subject.Pipelines) id
-routes_in PipelineJobs id n m key = with_two Get (λ i k. Read i (subject.Jobs k)) id n
-routes_in JobAttempts id n m key = with_two Get (λ i k. Read i (subject.Attempts k)) id n
-routes_in JobAttemptTrace id n m key = with_three Get (λ i k l. Read i (subject.Trace k l)) id n m
-routes_in ResourceGroups id n m key = with_one Get (λ i. Read i subject.ResourceGroups) id
+routes_in Project id n m key = with_one Get (λ i. Read i Subject.Project) id
+routes_in Pipelines id n m key = with_one Get (λ i. Read i Subject.Pipelines) id
+routes_in PipelineJobs id n m key = with_two Get (λ i k. Read i (Subject.Jobs k)) id n
+routes_in JobAttempts id n m key = with_two Get (λ i k. Read i (Subject.Attempts k)) id n
+routes_in JobAttemptTrace id n m key = with_three Get (λ i k l. Read i (Subject.Trace k l)) id n m
+routes_in ResourceGroups id n m key = with_one Get (λ i. Read i Subject.ResourceGroups) id
 routes_in HealthCheck id n m key = (Get, wanted Health) ∷ []
 
 abbrev pub routes_by : Place → List (Method × Wanted)

@@ -1,7 +1,7 @@
 -- The range of a piece of a trace: `from-to`, the places of its first byte and of its last.
 use Rattle.std.specs.Prelude.{ℕ, ◌+◌, ◌==◌, ◌&&◌, not, List, length, take, drop, nat_lt, if◌then◌else◌, Option, Some, None, option_and_then, position}
 use Rattle.std.specs.Str.Parse.{digits_value}
-use Rattle.ci_values.specs.Numbers.{is_number}
+use Rattle.ci_machine.specs.Prelude.{is_number}
 use Rattle.ci_http_messages.specs.declared.payloads.limits.TheConstants.{MAX_PLACE_DIGITS}
 
 -- a place in a trace, of few enough digits

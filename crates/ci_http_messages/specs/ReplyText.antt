@@ -12,7 +12,8 @@ use Rattle.ci_machine.specs.declared.reply.Methods.{Methods}
 use Rattle.ci_machine.specs.declared.reply.Body.{Body}
 use Rattle.ci_machine.specs.declared.reply.Body.TheVariants.{Json, Plain}
 use Rattle.ci_machine.specs.declared.reply.Reply.{Reply}
-use Rattle.ci_machine.specs.Reply.{status_text, body_text}
+use Rattle.ci_machine.specs.Reply.{status_text}
+use Rattle.ci_machine.specs.Prelude.{body_text}
 use Rattle.ci_http_messages.specs.Answers.{more}
 use Rattle.ci_http_messages.specs.Methods.{method_text}
 use Rattle.ci_http_messages.specs.Fields.{values_of}

@@ -3,7 +3,7 @@ use Rattle.std.specs.Prelude.{◌≡◌, ℕ, Bool, true, false, List, [], ◌�
 use Rattle.std.specs.Str.{is_utf8}
 use Rattle.serde_json.specs.Data.{Data}
 use Rattle.serde_json.specs.Find.{get}
-use Rattle.ci_values.specs.Names.{is_name}
+use Rattle.ci_machine.specs.Prelude.{is_name, refusal}
 use Rattle.ci_machine.specs.declared.reply.Method.{Method}
 use Rattle.ci_machine.specs.declared.reply.Methods.{Methods}
 use Rattle.ci_machine.specs.declared.reply.Code.{Code}
@@ -13,9 +13,7 @@ use Rattle.ci_machine.specs.declared.request.Request.{Request}
 use Rattle.ci_machine.specs.declared.request.Request.TheVariants.{AskJob, UpdateJob, AppendTrace, SetFile, SetVariable, DeleteVariable, SetMode, ShowMode, CreatePipeline, ShowPipeline, CancelPipeline, ShowJob, ShowTrace, Play, CancelJob, RetryJob, Read}
 use Rattle.ci_machine.specs.declared.request.JobQuery.{JobQuery}
 use Rattle.ci_machine.specs.declared.request.PipelineQuery.{PipelineQuery}
-use Rattle.ci_machine.specs.Reply.{refusal}
 use Rattle.ci_http_messages.specs.declared.routing.operation.Operation.{Operation}
-use Rattle.ci_http_messages.specs.declared.routing.operation.Operation.TheVariants as operation
 use Rattle.ci_http_messages.specs.Answers.{body_of, wanted}
 use Rattle.ci_http_messages.specs.Routes.{Body, no_body, file, bytes, json, Wanted, Asked, no_route, other_methods, asks, asked_in}
 use Rattle.ci_http_messages.specs.Json.{MayBeJson, object_in}
@@ -26,7 +24,6 @@ use Rattle.ci_http_messages.specs.Modes.{mode_of}
 use Rattle.ci_http_messages.specs.Creations.{creation_of}
 use Rattle.ci_http_messages.specs.Ranges.{start_in}
 use Rattle.ci_http_messages.specs.declared.route.Demand.{Demand}
-use Rattle.ci_http_messages.specs.declared.route.Demand.TheVariants as demand
 use Rattle.ci_http_messages.specs.Fields.{values_of}
 use Rattle.ci_http_messages.specs.Reading.{Message}
 use Rattle.ci_http_messages.specs.Targets.{path_of}
@@ -73,28 +70,28 @@ pipeline_of id field n = record { project = id; token = text_or_empty field; pip
 
 -- the request of an operation, with the values of its fields and its payload, if these are as it wants them
 abbrev pub requested : Operation (List ℕ) → List (List ℕ) → Payload → Option Request
-requested operation.AskJob [] (members (token ∷ [])) = option_map AskJob (token_of token)
-requested (operation.UpdateJob n) [] (members (token ∷ state ∷ reason ∷ exit ∷ [])) = option_map UpdateJob (update_of n token state reason exit)
-requested (operation.AppendTrace n) (field ∷ range ∷ []) (content piece) =
+requested Operation.AskJob [] (members (token ∷ [])) = option_map AskJob (token_of token)
+requested (Operation.UpdateJob n) [] (members (token ∷ state ∷ reason ∷ exit ∷ [])) = option_map UpdateJob (update_of n token state reason exit)
+requested (Operation.AppendTrace n) (field ∷ range ∷ []) (content piece) =
     option_map (λ from. AppendTrace (record { attempt = n; token = text_or_empty field; from = from; bytes = piece })) (start_in (length piece) range)
-requested (operation.SetFile id) (field ∷ []) (content text) = Some (SetFile (record { project = id; token = text_or_empty field; text = text }))
-requested (operation.SetVariable id key) (field ∷ []) (members (value ∷ [])) =
+requested (Operation.SetFile id) (field ∷ []) (content text) = Some (SetFile (record { project = id; token = text_or_empty field; text = text }))
+requested (Operation.SetVariable id key) (field ∷ []) (members (value ∷ [])) =
     option_map (λ text. SetVariable (record { project = id; token = text_or_empty field; key = key; value = text })) (value_of value)
-requested (operation.DeleteVariable id key) (field ∷ []) nothing = Some (DeleteVariable (record { project = id; token = text_or_empty field; key = key }))
-requested (operation.SetMode id key) (field ∷ []) (members (mode ∷ [])) =
+requested (Operation.DeleteVariable id key) (field ∷ []) nothing = Some (DeleteVariable (record { project = id; token = text_or_empty field; key = key }))
+requested (Operation.SetMode id key) (field ∷ []) (members (mode ∷ [])) =
     if is_name key then option_map (λ order. SetMode (record { project = id; token = text_or_empty field; group = key; order = order })) (mode_of mode) else None
-requested (operation.ShowMode id key) (field ∷ []) nothing =
+requested (Operation.ShowMode id key) (field ∷ []) nothing =
     if is_name key then Some (ShowMode (record { project = id; token = text_or_empty field; group = key })) else None
-requested (operation.CreatePipeline id) (field ∷ []) (members (git_ref ∷ tag ∷ source ∷ variables ∷ [])) =
+requested (Operation.CreatePipeline id) (field ∷ []) (members (git_ref ∷ tag ∷ source ∷ variables ∷ [])) =
     option_map CreatePipeline (creation_of id (text_or_empty field) git_ref tag source variables)
-requested (operation.ShowPipeline id n) (field ∷ []) nothing = Some (ShowPipeline (pipeline_of id field n))
-requested (operation.CancelPipeline id n) (field ∷ []) nothing = Some (CancelPipeline (pipeline_of id field n))
-requested (operation.ShowJob id n) (field ∷ []) nothing = Some (ShowJob (job_of id field n))
-requested (operation.ShowTrace id n) (field ∷ []) nothing = Some (ShowTrace (job_of id field n))
-requested (operation.Play id n) (field ∷ []) nothing = Some (Play (job_of id field n))
-requested (operation.CancelJob id n) (field ∷ []) nothing = Some (CancelJob (job_of id field n))
-requested (operation.RetryJob id n) (field ∷ []) nothing = Some (RetryJob (job_of id field n))
-requested (operation.Read id what) (field ∷ []) nothing = Some (Read (record { project = id; token = text_or_empty field; subject = what }))
+requested (Operation.ShowPipeline id n) (field ∷ []) nothing = Some (ShowPipeline (pipeline_of id field n))
+requested (Operation.CancelPipeline id n) (field ∷ []) nothing = Some (CancelPipeline (pipeline_of id field n))
+requested (Operation.ShowJob id n) (field ∷ []) nothing = Some (ShowJob (job_of id field n))
+requested (Operation.ShowTrace id n) (field ∷ []) nothing = Some (ShowTrace (job_of id field n))
+requested (Operation.Play id n) (field ∷ []) nothing = Some (Play (job_of id field n))
+requested (Operation.CancelJob id n) (field ∷ []) nothing = Some (CancelJob (job_of id field n))
+requested (Operation.RetryJob id n) (field ∷ []) nothing = Some (RetryJob (job_of id field n))
+requested (Operation.Read id what) (field ∷ []) nothing = Some (Read (record { project = id; token = text_or_empty field; subject = what }))
 requested _ _ _ = None
 
 -- the request that a message makes of a route, by the route's fields and body, if these are as it wants them
@@ -119,14 +116,14 @@ not_allowed methods = record (refusal H6) { allow = methods_of methods }
 
 -- whether the server is open isn't asked of the machine: no request asks for it, and it takes nothing of the message
 abbrev pub is_health : {K : Type 0} → Operation K → Bool
-is_health operation.Health = true
+is_health Operation.Health = true
 is_health _ = false
 
 abbrev pub request_as : Asked → Message → Result Demand Reply
 request_as no_route m = Err (refusal H5)
 request_as (other_methods methods) m = Err (not_allowed methods)
 request_as (asks w) m =
-    if is_health w.operation then Ok demand.Health else ok_or (option_map demand.Request (request_by w m)) (refusal H7)
+    if is_health w.operation then Ok Demand.Health else ok_or (option_map Demand.Request (request_by w m)) (refusal H7)
 
 -- what a message asks for
 abbrev pub request_in : Message → Result Demand Reply

@@ -1,10 +1,10 @@
 -- The table of routes, and what a method and a path ask for by it.
 use Rattle.std.specs.Prelude.{ℕ, List, [], ◌∷◌, map, cond, ◌==◌, if◌then◌else◌, Option, Some, None, option_and_then, codes}
 use Rattle.std.specs.List.{find}
-use Rattle.ci_values.specs.Numbers.{id_in}
+use Rattle.ci_machine.specs.Prelude.{id_in}
 use Rattle.ci_machine.specs.declared.reply.Method.{Method}
 use Rattle.ci_machine.specs.declared.reply.Method.TheVariants.{Delete, Get, Patch, Post, Put}
-use Rattle.ci_machine.specs.declared.request.Subject.TheVariants as subject
+use Rattle.ci_machine.specs.declared.request.Subject.{Subject}
 use Rattle.ci_http_messages.specs.declared.routing.operation.Operation.{Operation}
 use Rattle.ci_http_messages.specs.declared.routing.operation.Operation.TheVariants.{AskJob, UpdateJob, AppendTrace, SetFile, SetVariable, DeleteVariable, SetMode, ShowMode, CreatePipeline, ShowPipeline, CancelPipeline, ShowJob, ShowTrace, Play, CancelJob, RetryJob, Read, Health}
 use Rattle.ci_http_messages.specs.Methods.{is_text, method_text}
@@ -71,25 +71,25 @@ routes =
     [] (json (codes "token" ∷ codes "state" ∷ codes "failure_reason" ∷ codes "exit_code" ∷ [])) UpdateJob
     ∷ project_route Put (project (word (codes "ci_file") ∷ [])) file SetFile
     ∷ project_route Get (project (word (codes "jobs") ∷ number (codes "n") ∷ word (codes "attempts") ∷ number (codes "m") ∷ word (codes "trace") ∷ [])) no_body
-    (λ id n m. Read id (subject.Trace n m))
-    ∷ project_route Get (project (word (codes "jobs") ∷ number (codes "n") ∷ word (codes "attempts") ∷ [])) no_body (λ id n. Read id (subject.Attempts n))
+    (λ id n m. Read id (Subject.Trace n m))
+    ∷ project_route Get (project (word (codes "jobs") ∷ number (codes "n") ∷ word (codes "attempts") ∷ [])) no_body (λ id n. Read id (Subject.Attempts n))
     ∷ project_route Post (project (word (codes "jobs") ∷ number (codes "n") ∷ word (codes "cancel") ∷ [])) no_body CancelJob
     ∷ project_route Post (project (word (codes "jobs") ∷ number (codes "n") ∷ word (codes "play") ∷ [])) no_body Play
     ∷ project_route Post (project (word (codes "jobs") ∷ number (codes "n") ∷ word (codes "retry") ∷ [])) no_body RetryJob
     ∷ project_route Get (project (word (codes "jobs") ∷ number (codes "n") ∷ word (codes "trace") ∷ [])) no_body ShowTrace
     ∷ project_route Get (project (word (codes "jobs") ∷ number (codes "n") ∷ [])) no_body ShowJob
     ∷ project_route Post (project (word (codes "pipelines") ∷ number (codes "n") ∷ word (codes "cancel") ∷ [])) no_body CancelPipeline
-    ∷ project_route Get (project (word (codes "pipelines") ∷ number (codes "n") ∷ word (codes "jobs") ∷ [])) no_body (λ id n. Read id (subject.Jobs n))
+    ∷ project_route Get (project (word (codes "pipelines") ∷ number (codes "n") ∷ word (codes "jobs") ∷ [])) no_body (λ id n. Read id (Subject.Jobs n))
     ∷ project_route Get (project (word (codes "pipelines") ∷ number (codes "n") ∷ [])) no_body ShowPipeline
-    ∷ project_route Get (project (word (codes "pipelines") ∷ [])) no_body (λ id. Read id subject.Pipelines)
+    ∷ project_route Get (project (word (codes "pipelines") ∷ [])) no_body (λ id. Read id Subject.Pipelines)
     ∷ project_route Post (project (word (codes "pipeline") ∷ []))
     (json (codes "ref" ∷ codes "tag" ∷ codes "source" ∷ codes "variables" ∷ [])) CreatePipeline
     ∷ project_route Get (project (word (codes "resource_groups") ∷ text (codes "key") ∷ [])) no_body ShowMode
     ∷ project_route Put (project (word (codes "resource_groups") ∷ text (codes "key") ∷ [])) (json (codes "process_mode" ∷ [])) SetMode
-    ∷ project_route Get (project (word (codes "resource_groups") ∷ [])) no_body (λ id. Read id subject.ResourceGroups)
+    ∷ project_route Get (project (word (codes "resource_groups") ∷ [])) no_body (λ id. Read id Subject.ResourceGroups)
     ∷ project_route Delete (project (word (codes "variables") ∷ text (codes "key") ∷ [])) no_body DeleteVariable
     ∷ project_route Put (project (word (codes "variables") ∷ text (codes "key") ∷ [])) (json (codes "value" ∷ [])) SetVariable
-    ∷ project_route Get (project []) no_body (λ id. Read id subject.Project)
+    ∷ project_route Get (project []) no_body (λ id. Read id Subject.Project)
     ∷ []
 
 -- what the segments ask for by a route's path, if each fits its part

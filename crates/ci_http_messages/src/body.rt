@@ -6,7 +6,7 @@ ghost use Rattle.std.specs.Io.KnownBytes.{Consumes};
 ghost use Rattle.ci_machine.specs.declared.reply.Code.{Code};
 ghost use Rattle.ci_http_messages.specs.BodyLength.{length_after, wants_length};
 ghost use Rattle.ci_http_messages.specs.Fields.{Shows};
-ghost use Rattle.ci_values.specs.Numbers.{is_number, within};
+ghost use Rattle.ci_machine.specs.Prelude.{is_number, within};
 ghost use Rattle.ci_http_messages.specs.Sources.{Tells, TakesFront, Fails};
 
 use crate::fault::HttpFault;

@@ -2,8 +2,7 @@
 
 ghost use Rattle.std.specs.Prelude.{◌≡◌, ◌⊎◌, None, Some, Ok, Err, IfOk, IfErr, IsSome, MatchOption, option_map, codes, true, false};
 ghost use Rattle.std.specs.Str.{is_utf8};
-ghost use Rattle.ci_machine.specs.Reply.{refusal};
-ghost use Rattle.ci_values.specs.Names.{is_name};
+ghost use Rattle.ci_machine.specs.Prelude.{refusal, is_name};
 ghost use Rattle.ci_http_messages.specs.Answers.{as_asked, map_key};
 ghost use Rattle.ci_http_messages.specs.ReplyText.{listed};
 ghost use Rattle.ci_http_messages.specs.RequestBytes.{field_in, text_or_empty, job_of, pipeline_of, asked_at, not_allowed, is_health, request_in, AsksMemory, Gives, AnswersFor};

@@ -2,7 +2,8 @@
 
 ghost use Rattle.std.specs.Prelude.{◌≡◌, ◌<◌, ◌≤◌, ◌+◌, ◌^◌, ◌++◌, length, decimal, IfSome};
 ghost use Rattle.arrayvec.specs.ArrayVec.{array_vec_len};
-ghost use Rattle.ci_machine.specs.Reply.{status_text, body_text};
+ghost use Rattle.ci_machine.specs.Reply.{status_text};
+ghost use Rattle.ci_machine.specs.Prelude.{body_text};
 ghost use Rattle.ci_http_messages.specs.ReplyText.{number_of, reason_of, status_line, type_text, crlf, job_status_line, range_line, allow_line, type_line, length_line, head_text, reply_text, IsResponse};
 
 use crate::limits::MAX_REPLY_HEAD_BYTES;

@@ -1,6 +1,6 @@
 -- Peers that give way to replies.
 use Rattle.std.proofs.Common.{◌≡◌, ℕ, zero, suc, true, false, ◌+◌, ◌<◌, List, [], ◌∷◌, ◌++◌, ◌⊎◌, inr, map, take, drop, set, get_or, length, refl, sym, ◌∙◌, ap, subst, arith}
-use Rattle.std.specs.Prelude.{Option, Some, None, slice_get, nat_eq, Bool}
+use Rattle.std.proofs.Common.{Option, Some, None, slice_get, nat_eq, Bool}
 use Rattle.std.proofs.lemmas.Bool.Decides.{nat_tests}
 use Rattle.std.specs.List.{sum_by}
 use Rattle.std.proofs.lemmas.Bool.{true≢false}
@@ -8,7 +8,6 @@ use Rattle.std.proofs.lemmas.List.Sums.{sum_by-cons, sum_by-set}
 use Rattle.std.proofs.lemmas.Option.{get_or_from_slice_get, slice_get_within}
 use Rattle.ci_http_peers.specs.declared.peer.Peer.{Peer}
 use Rattle.ci_http_peers.specs.declared.peer.Stage.{Stage}
-use Rattle.ci_http_peers.specs.declared.peer.Stage.TheVariants as stage
 use Rattle.ci_http_peers.specs.declared.peer.Among.TheVariants.{Writing}
 use Rattle.ci_http_peers.specs.declared.peers.TheConstants.{MAX_REPLY_BYTES}
 use Rattle.ci_http_peers.specs.Peer.{is_among}
@@ -21,9 +20,9 @@ seat_count None = 0
 seat_count (Some peer) = 1
 
 no_bytes_at : (s : Stage) → is_among Writing s ≡ false → bytes_at s ≡ 0
-no_bytes_at stage.Reading e = refl
-no_bytes_at (stage.Writing bytes) e = cc
-no_bytes_at stage.Ending e = refl
+no_bytes_at Stage.Reading e = refl
+no_bytes_at (Stage.Writing bytes) e = cc
+no_bytes_at Stage.Ending e = refl
 
 no_bytes : (seat : Option Peer) → IsNoneOf Writing (Some seat) → bytes_of seat ≡ 0
 no_bytes None h = refl

@@ -1,13 +1,11 @@
 -- Places of a table, and what one turn after another leaves of them.
-use Rattle.std.proofs.Common.{◌≡◌, ◌≢◌, ◌⊎◌, ℕ, zero, suc, ◌+◌, ◌<◌, ◌≤◌, Bool, true, false, List, [], ◌∷◌, ◌++◌, take, drop, set, get_or, length, refl, sym, ◌∙◌, ap, subst, inl, inr, arith}
+use Rattle.std.proofs.Common.{◌≡◌, ◌≢◌, ◌⊎◌, ℕ, zero, suc, ◌+◌, ◌<◌, ◌≤◌, Bool, true, false, List, [], ◌∷◌, ◌++◌, take, drop, set, get_or, length, refl, sym, ◌∙◌, ap, subst, inl}
+use Rattle.std.proofs.Common.{inr, arith, Option, Some, None, Result, Ok, Err, OnOk, slice_get}
 use Rattle.std.specs.declared.io.Error.{Error}
 use Rattle.ci_http_peers.specs.declared.peer.Stage.{Stage}
-use Rattle.ci_http_peers.specs.declared.peer.Stage.TheVariants as stage
 use Rattle.ci_http_peers.specs.declared.chair.Step.{Step}
-use Rattle.ci_http_peers.specs.declared.chair.Step.TheVariants as step
 use Rattle.ci_http_peers.specs.Peer.{is_among}
 use Rattle.ci_http_peers.specs.Connections.{Reads}
-use Rattle.std.specs.Prelude.{Option, Some, None, Result, Ok, Err, OnOk, slice_get}
 use Rattle.std.proofs.Math.Seq.{take-append_seam}
 use Rattle.std.proofs.lemmas.Bool.{true≢false}
 use Rattle.std.proofs.lemmas.Option.{slice_get-get_or, get_or_from_slice_get, slice_get_within}
@@ -360,9 +358,9 @@ on_ok (Err e) p = tt
 whole_reads : {W : Type 0} (says : List ℕ → Option ℕ → Type 0) (receives : W → W → Result ℕ Error → List ℕ → Type 0) (sends : W → List ℕ → W → Result ℕ Error → Type 0)
     (st : Stage) (old new : Chair W) (s : Step) → is_among Reading st ≡ true → CallsAt says receives sends st old new s
     → (got : Result ℕ Error) × (buffer : List ℕ) × receives old.wire new.wire got buffer × Reads old new s says got buffer
-whole_reads says receives sends stage.Reading old new s is calls = calls
-whole_reads says receives sends (stage.Writing bytes) old new s is calls = absurd (true≢false (sym is))
-whole_reads says receives sends stage.Ending old new s is calls = absurd (true≢false (sym is))
+whole_reads says receives sends Stage.Reading old new s is calls = calls
+whole_reads says receives sends (Stage.Writing bytes) old new s is calls = absurd (true≢false (sym is))
+whole_reads says receives sends Stage.Ending old new s is calls = absurd (true≢false (sym is))
 
 there : {A : Type 0} (seat : Option (Option A)) → (IsGone seat → ⊥) → (x : A) × (seat ≡ Some (Some x))
 there None not = absurd (not tt)
@@ -372,18 +370,18 @@ there (Some (Some x)) not = (x, refl)
 -- of a place whose request came whole by a call: what was answered are the bytes of its connection
 pub answers_here : {W T : Type 0} (says : List ℕ → Option ℕ → Type 0) (receives : W → W → Result ℕ Error → List ℕ → Type 0) (sends : W → List ℕ → W → Result ℕ Error → Type 0)
     (answers : List ℕ → T → T → Option (List ℕ) → Type 0) (seat : Option (Option Peer)) (chair : Option (Option (Chair W))) (after : Option (Option (Chair W))) (s : Step)
-    (new : Chair W) (text : Option (List ℕ)) (old_subject new_subject : T) → s ≡ step.Whole → is_at Reading seat ≡ true → (IsGone chair → s ≡ step.Over) → after ≡ Some (Some new)
+    (new : Chair W) (text : Option (List ℕ)) (old_subject new_subject : T) → s ≡ Step.Whole → is_at Reading seat ≡ true → (IsGone chair → s ≡ Step.Over) → after ≡ Some (Some new)
     → ((peer : Peer) → (old : Chair W) → seat ≡ Some (Some peer) → chair ≡ Some (Some old)
     → (x : Chair W) × (after ≡ Some (Some x)) × CallsAt says receives sends peer.stage old x s)
     → answers new.bytes.items old_subject new_subject text → AnswersHere says receives answers chair old_subject new_subject
 answers_here {W} says receives sends answers seat chair after s new text t u whole reads none at calls said =
-    let gone : IsGone chair → ⊥ = λ g. let e : step.Over ≡ step.Whole = sym (none g) ∙ whole in absurd (cc) in
+    let gone : IsGone chair → ⊥ = λ g. let e : Step.Over ≡ Step.Whole = sym (none g) ∙ whole in absurd (cc) in
     let (old, was) = there chair gone in
     let (peer, sits) = seated Reading seat reads in
     let (x, is, call) = calls peer old sits was in
     let both : Some (Some x) ≡ Some (Some new) = sym is ∙ at in
     let same : x ≡ new = cc in
     let reading : is_among Reading peer.stage ≡ true = ap (is_at Reading) (sym sits) ∙ reads in
-    let called : CallsAt says receives sends peer.stage old new step.Whole =
-    subst (λ n. CallsAt says receives sends peer.stage old n step.Whole) same (subst (λ r. CallsAt says receives sends peer.stage old x r) whole call) in
-    inr (old, new, text, was, whole_reads says receives sends peer.stage old new step.Whole reading called, said)
+    let called : CallsAt says receives sends peer.stage old new Step.Whole =
+    subst (λ n. CallsAt says receives sends peer.stage old n Step.Whole) same (subst (λ r. CallsAt says receives sends peer.stage old x r) whole call) in
+    inr (old, new, text, was, whole_reads says receives sends peer.stage old new Step.Whole reading called, said)

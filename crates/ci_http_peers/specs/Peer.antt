@@ -1,9 +1,7 @@
 -- What a peer is at, and until when.
 use Rattle.std.specs.Prelude.{ℕ, Bool, true, false, ◌+◌, min}
 use Rattle.ci_http_peers.specs.declared.peer.Stage.{Stage}
-use Rattle.ci_http_peers.specs.declared.peer.Stage.TheVariants as stage
 use Rattle.ci_http_peers.specs.declared.peer.Among.{Among}
-use Rattle.ci_http_peers.specs.declared.peer.Among.TheVariants as among
 
 -- when a time ends that begins now, in milliseconds: at the end of the clock at the latest
 abbrev pub until : ℕ → ℕ → ℕ
@@ -11,10 +9,10 @@ until now span = min (now + span) 18446744073709551615
 
 -- a peer at this stage is one of these
 abbrev pub is_among : Among → Stage → Bool
-is_among among.All s = true
-is_among among.Reading stage.Reading = true
-is_among among.Reading (stage.Writing bytes) = false
-is_among among.Reading stage.Ending = false
-is_among among.Writing stage.Reading = false
-is_among among.Writing (stage.Writing bytes) = true
-is_among among.Writing stage.Ending = false
+is_among Among.All s = true
+is_among Among.Reading Stage.Reading = true
+is_among Among.Reading (Stage.Writing bytes) = false
+is_among Among.Reading Stage.Ending = false
+is_among Among.Writing Stage.Reading = false
+is_among Among.Writing (Stage.Writing bytes) = true
+is_among Among.Writing Stage.Ending = false

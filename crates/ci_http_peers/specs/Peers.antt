@@ -3,9 +3,7 @@ use Rattle.std.specs.Prelude.{◌≡◌, ◌≤◌, ◌<◌, ◌⊎◌, ℕ, Lis
 use Rattle.std.specs.List.{sum_by}
 use Rattle.ci_http_peers.specs.declared.peer.Peer.{Peer}
 use Rattle.ci_http_peers.specs.declared.peer.Stage.{Stage}
-use Rattle.ci_http_peers.specs.declared.peer.Stage.TheVariants as stage
 use Rattle.ci_http_peers.specs.declared.peer.Among.{Among}
-use Rattle.ci_http_peers.specs.declared.peer.Among.TheVariants as among
 use Rattle.ci_http_peers.specs.declared.peers.TheConstants.{MAX_REPLY_BYTES}
 use Rattle.ci_http_peers.specs.Peer.{is_among}
 
@@ -44,21 +42,21 @@ IsFree seats (Some place) = slice_get seats place ≡ Some None
 abbrev pub IsNext : List (Option Peer) → Option ℕ → Type 0
 IsNext seats place =
     ((p : ℕ) × (place ≡ Some p) × IsFree seats (Some p))
-    ⊎ (IsFree seats None × (((p : ℕ) × (place ≡ Some p) × IsSoonest seats among.Reading (Some p))
-    ⊎ (IsSoonest seats among.Reading None × IsSoonest seats among.All place)))
+    ⊎ (IsFree seats None × (((p : ℕ) × (place ≡ Some p) × IsSoonest seats Among.Reading (Some p))
+    ⊎ (IsSoonest seats Among.Reading None × IsSoonest seats Among.All place)))
 
 -- the nearest deadline, if anybody sits
 abbrev pub IsNextDeadline : List (Option Peer) → Option ℕ → Type 0
-IsNextDeadline seats None = IsSoonest seats among.All None
+IsNextDeadline seats None = IsSoonest seats Among.All None
 IsNextDeadline seats (Some deadline) =
     (place : ℕ) × (peer : Peer) × (slice_get seats place ≡ Some (Some peer)) × (peer.deadline ≡ deadline)
-    × ((k : ℕ) → NotBefore among.All deadline (slice_get seats k))
+    × ((k : ℕ) → NotBefore Among.All deadline (slice_get seats k))
 
 -- how many bytes of a reply a peer at a stage has in memory
 abbrev pub bytes_at : Stage → ℕ
-bytes_at stage.Reading = 0
-bytes_at (stage.Writing bytes) = bytes
-bytes_at stage.Ending = 0
+bytes_at Stage.Reading = 0
+bytes_at (Stage.Writing bytes) = bytes
+bytes_at Stage.Ending = 0
 
 -- how many bytes of a reply lie in memory for who sits at a place
 abbrev pub bytes_of : Option Peer → ℕ
@@ -72,7 +70,7 @@ bytes_held seats = sum_by bytes_of seats
 -- the replies have room in memory; or they haven't, and this is the place of the peer that has been taking its own longest
 abbrev pub IsTooMany : List (Option Peer) → Option ℕ → Type 0
 IsTooMany seats None = bytes_held seats ≤ MAX_REPLY_BYTES
-IsTooMany seats (Some place) = (MAX_REPLY_BYTES < bytes_held seats) × IsSoonest seats among.Writing (Some place)
+IsTooMany seats (Some place) = (MAX_REPLY_BYTES < bytes_held seats) × IsSoonest seats Among.Writing (Some place)
 
 -- who sits at a place, or nobody where their time is over
 abbrev pub kept : ℕ → Option Peer → Option Peer

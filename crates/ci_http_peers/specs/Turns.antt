@@ -3,13 +3,10 @@ use Rattle.std.specs.Prelude.{◌≡◌, ◌≢◌, ◌≤◌, ◌<◌, ◌⊎�
 use Rattle.std.specs.declared.io.Error.{Error}
 use Rattle.ci_http_peers.specs.declared.peer.Peer.{Peer}
 use Rattle.ci_http_peers.specs.declared.peer.Stage.{Stage}
-use Rattle.ci_http_peers.specs.declared.peer.Stage.TheVariants as stage
 use Rattle.ci_http_peers.specs.declared.peer.Among.{Among}
-use Rattle.ci_http_peers.specs.declared.peer.Among.TheVariants as among
 use Rattle.ci_http_peers.specs.declared.peer.TheConstants.{LINGER_MILLIS}
 use Rattle.ci_http_peers.specs.declared.chair.Chair.{Chair}
 use Rattle.ci_http_peers.specs.declared.chair.Step.{Step}
-use Rattle.ci_http_peers.specs.declared.chair.Step.TheVariants as step
 use Rattle.ci_http_peers.specs.Peer.{until, is_among}
 use Rattle.ci_http_peers.specs.Peers.{IsNext}
 use Rattle.ci_http_peers.specs.Connections.{Reads, Writes, Drains}
@@ -46,27 +43,27 @@ cleared_at (Some peer) place chairs = chairs
 abbrev pub StaysOrYields : {C : Type 0} → List (Option Peer) → List (Option C) → List (Option Peer) → List (Option C) → ℕ → Type 0
 StaysOrYields seats chairs seats_new chairs_new k =
     ((slice_get seats_new k ≡ slice_get seats k) × (slice_get chairs_new k ≡ slice_get chairs k))
-    ⊎ ((IsGone (slice_get seats k) ⊎ (is_at among.Writing (slice_get seats k) ≡ true)) × IsGone (slice_get seats_new k) × IsGone (slice_get chairs_new k))
+    ⊎ ((IsGone (slice_get seats k) ⊎ (is_at Among.Writing (slice_get seats k) ≡ true)) × IsGone (slice_get seats_new k) × IsGone (slice_get chairs_new k))
 
 -- a peer whose reply of so many bytes goes since now
 abbrev pub writes_since : ℕ → ℕ → ℕ → Peer
-writes_since now patience bytes = record { stage = stage.Writing bytes; deadline = until now patience }
+writes_since now patience bytes = record { stage = Stage.Writing bytes; deadline = until now patience }
 
 -- a peer whose reply went now
 abbrev pub ends_since : ℕ → Peer
-ends_since now = record { stage = stage.Ending; deadline = until now LINGER_MILLIS }
+ends_since now = record { stage = Stage.Ending; deadline = until now LINGER_MILLIS }
 
 -- who sat at a place is gone, or sits as before, with the time as before; or the request came, and the reply goes since now; or the
 -- reply went now
 abbrev pub GoesOn : ℕ → ℕ → Option (Option Peer) → Option (Option Peer) → Type 0
 GoesOn now patience old new =
     IsGone new ⊎ ((new ≡ old)
-    ⊎ (((is_at among.Reading old ≡ true) × (bytes : ℕ) × (new ≡ Some (Some (writes_since now patience bytes))))
-    ⊎ (((is_at among.Reading old ≡ true) ⊎ (is_at among.Writing old ≡ true)) × (new ≡ Some (Some (ends_since now))))))
+    ⊎ (((is_at Among.Reading old ≡ true) × (bytes : ℕ) × (new ≡ Some (Some (writes_since now patience bytes))))
+    ⊎ (((is_at Among.Reading old ≡ true) ⊎ (is_at Among.Writing old ≡ true)) × (new ≡ Some (Some (ends_since now))))))
 
 -- a peer whose request comes since now
 abbrev pub reads_since : ℕ → ℕ → Peer
-reads_since now patience = record { stage = stage.Reading; deadline = until now patience }
+reads_since now patience = record { stage = Stage.Reading; deadline = until now patience }
 
 -- one more peer sat down now at the place that is the next, if there is one, and went on; all others stay, or yield to replies
 abbrev pub Seats : {C : Type 0} → ℕ → ℕ → List (Option Peer) → List (Option C) → List (Option Peer) → List (Option C) → Type 0
@@ -99,14 +96,14 @@ HasAll chair = (due : ℕ) × (chair.due ≡ Some due) × (due ≤ length chair.
 -- comes after it is taken; and what comes of that
 module _ {W : Type 0} (says : List ℕ → Option ℕ → Type 0) (receives : W → W → Result ℕ Error → List ℕ → Type 0) (sends : W → List ℕ → W → Result ℕ Error → Type 0) where
   abbrev pub CallsAt : Stage → Chair W → Chair W → Step → Type 0
-  CallsAt stage.Reading old new s =
+  CallsAt Stage.Reading old new s =
       (got : Result ℕ Error) × (buffer : List ℕ) × receives old.wire new.wire got buffer × Reads old new s says got buffer
-  CallsAt (stage.Writing bytes) old new s =
-      (old.count ≡ length old.bytes.items → (s ≡ step.Went) × (new ≡ old))
+  CallsAt (Stage.Writing bytes) old new s =
+      (old.count ≡ length old.bytes.items → (s ≡ Step.Went) × (new ≡ old))
       × (old.count < length old.bytes.items → (got : Result ℕ Error) × sends old.wire (drop old.count old.bytes.items) new.wire got
       × Writes old new s (drop old.count old.bytes.items) got)
-      × (length old.bytes.items < old.count → (s ≡ step.Over) × (new ≡ old))
-  CallsAt stage.Ending old new s =
+      × (length old.bytes.items < old.count → (s ≡ Step.Over) × (new ≡ old))
+  CallsAt Stage.Ending old new s =
       (got : Result ℕ Error) × (buffer : List ℕ) × receives old.wire new.wire got buffer × Drains old new s got
 
 -- what an answer leaves: with none the peer is gone; with a text the peer's connection has just that to send, for which the time
@@ -126,10 +123,10 @@ Ends ends old new = ends old.wire new.wire × (new.bytes.items ≡ []) × (new.c
 -- a reply went: where just the request came the connection is over; else its peer is told that nothing more comes, and has a time to end
 abbrev pub EndsReply : {W : Type 0} → (W → W → Type 0) → ℕ → ℕ → Chair W → List (Option Peer) → List (Option (Chair W)) → List (Option Peer) → List (Option (Chair W)) → Step → Type 0
 EndsReply {W} ends now place chair seats chairs seats_new chairs_new s =
-    (chair.is_exact ≡ true → (s ≡ step.Over) × (seats_new ≡ seats) × (chairs_new ≡ chairs))
+    (chair.is_exact ≡ true → (s ≡ Step.Over) × (seats_new ≡ seats) × (chairs_new ≡ chairs))
     × (chair.is_exact ≡ false → (seats_new ≡ slice_set seats place (Some (ends_since now)))
     × ((new : Chair W) × (chairs_new ≡ slice_set chairs place (Some new)) × Ends ends chair new)
-    × (chair.is_heard ≡ true → s ≡ step.Again) × (chair.is_heard ≡ false → s ≡ step.Waits))
+    × (chair.is_heard ≡ true → s ≡ Step.Again) × (chair.is_heard ≡ false → s ≡ Step.Waits))
 
 -- a request that is whole was answered
 abbrev pub AnswersOne : {W T : Type 0} → (List ℕ → T → T → Option (List ℕ) → Type 0) → T → T → Chair W → Option (List ℕ) → Type 0
@@ -138,12 +135,12 @@ AnswersOne answers old new chair text = HasAll chair × answers chair.bytes.item
 -- the subject is as before; or one request was answered, where one was to come at this place
 abbrev pub AnswersOnce : (W : Type 0) {T : Type 0} → (List ℕ → T → T → Option (List ℕ) → Type 0) → Option (Option Peer) → T → T → Type 0
 AnswersOnce W answers seat old new =
-    (new ≡ old) ⊎ ((is_at among.Reading seat ≡ true) × (chair : Chair W) × (text : Option (List ℕ)) × AnswersOne answers old new chair text)
+    (new ≡ old) ⊎ ((is_at Among.Reading seat ≡ true) × (chair : Chair W) × (text : Option (List ℕ)) × AnswersOne answers old new chair text)
 
 -- and none is to come there any more
 abbrev pub AnswersLast : (W : Type 0) {T : Type 0} → (List ℕ → T → T → Option (List ℕ) → Type 0) → Option (Option Peer) → Option (Option Peer) → T → T → Type 0
 AnswersLast W answers seat seat_new old new =
-    (new ≡ old) ⊎ ((is_at among.Reading seat ≡ true) × (is_at among.Reading seat_new ≡ false)
+    (new ≡ old) ⊎ ((is_at Among.Reading seat ≡ true) × (is_at Among.Reading seat_new ≡ false)
     × (chair : Chair W) × (text : Option (List ℕ)) × AnswersOne answers old new chair text)
 
 -- the subject is as before; or a call on the connection at a place took the last bytes of its request, and just its bytes were answered
@@ -151,7 +148,7 @@ module _ {W T : Type 0} (says : List ℕ → Option ℕ → Type 0) (receives : 
   abbrev pub AnswersHere : Option (Option (Chair W)) → T → T → Type 0
   AnswersHere seat old new =
       (new ≡ old) ⊎ ((before : Chair W) × (chair : Chair W) × (text : Option (List ℕ)) × (seat ≡ Some (Some before))
-      × ((got : Result ℕ Error) × (buffer : List ℕ) × receives before.wire chair.wire got buffer × Reads before chair step.Whole says got buffer)
+      × ((got : Result ℕ Error) × (buffer : List ℕ) × receives before.wire chair.wire got buffer × Reads before chair Step.Whole says got buffer)
       × answers chair.bytes.items old new text)
 
 -- requests that were answered, one after the other

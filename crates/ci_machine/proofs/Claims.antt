@@ -1,18 +1,13 @@
 -- Which claims are on one resource group: those of who holds it, and of who goes first in it.
-use Rattle.std.specs.Prelude.{◌≡◌, ℕ, Bool, true, false, ◌&&◌, ◌||◌, not, ◌==◌, List, [], ◌∷◌, ◌++◌, map, filter, Option, Some, None, if◌then◌else◌}
+use Rattle.std.proofs.Common.{◌≡◌, ℕ, Bool, true, false, ◌&&◌, ◌||◌, not, ◌==◌, List, [], ◌∷◌, ◌++◌, map, filter, Option, Some, None, if◌then◌else◌, refl, sym, ap, ◌∙◌, ⊎_elim}
+use Rattle.std.proofs.Common.{eqb-true}
 use Rattle.std.specs.List.{list_any}
 use Rattle.std.specs.Str.{bytes_eq}
-use Rattle.std.proofs.Common.{refl, sym, ap, ◌∙◌, ⊎_elim, eqb-true}
 use Rattle.std.proofs.lemmas.Bool.{cases_Bool, and_parts}
 use Rattle.std.proofs.lemmas.List.Folds.{list_any-append}
 use Rattle.std.proofs.lemmas.Slice.Eq.{bytes_eq-Decides}
-use Rattle.ci_machine.specs.declared.records.Claim.{Claim}
-use Rattle.ci_machine.specs.declared.records.GroupMode.{GroupMode}
-use Rattle.ci_machine.specs.declared.records.Holder.{Holder}
-use Rattle.ci_machine.specs.declared.records.QueuedJob.{QueuedJob}
-use Rattle.ci_machine.specs.declared.records.WaitingJob.{WaitingJob}
-use Rattle.ci_machine.specs.Eligible.{holds, claims_group, is_free, resource_free}
-use Rattle.ci_machine.specs.Groups.{Groups, order_of, goes_before_in, is_first, held_claim, waiting_claim, claims_ahead, claims_on, is_in_line, is_behind}
+use Rattle.ci_machine.specs.Prelude.{Claim, GroupMode, Holder, QueuedJob, WaitingJob, holds, claims_group, is_free, resource_free, Groups, order_of, goes_before_in, is_first}
+use Rattle.ci_machine.specs.Prelude.{held_claim, waiting_claim, claims_ahead, claims_on, is_in_line, is_behind}
 use Rattle.ci_machine.proofs.Tests.{any_mapped}
 
 and_true : (b : Bool) → (b && true) ≡ b

@@ -8,7 +8,7 @@ use Rattle.jiff_core.proofs.SignedLemmas.{signed_arith}
 use Rattle.jiff_core.proofs.CalendarLemmas.{days_in_month_bounds, day_count-epoch, days_from_civil-day_count}
 use Rattle.jiff_core.proofs.DateLemmas.{epoch_day_injective, days_from_civil-day, days_from_civil-next_month, days_from_civil-next_year, days_from_civil-max}
 use Rattle.jiff_fmt.specs.Text.{date_text, year_text, pad2}
-use Rattle.ci_machine.specs.Dates.{Day, day_of, day_after, day_at, day_text}
+use Rattle.ci_machine.specs.Prelude.{Day, day_of, day_after, day_at, day_text}
 
 -- the calendar has the day, and n is its number
 pub record HasNumber (d : Day) (n : ℕ) : Type 0 where

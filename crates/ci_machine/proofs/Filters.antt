@@ -1,10 +1,9 @@
 -- Lists that are filtered more than once.
-use Rattle.std.specs.Prelude.{◌≡◌, ℕ, Bool, true, false, cond, ◌==◌, ◌&&◌, ◌||◌, not, List, [], ◌∷◌, filter, find, map, Some}
+use Rattle.std.proofs.Common.{◌≡◌, ℕ, Bool, true, false, cond, ◌==◌, ◌&&◌, ◌||◌, not, List, [], ◌∷◌, filter, find, map, Some, nat_cmp, is_eq, refl, sym, ap, subst, ◌∙◌, inl, inr}
+use Rattle.std.proofs.Common.{⊎_elim, eqb-true, eq-eqb}
 use Rattle.std.specs.List.{list_any}
-use Rattle.std.specs.Ordering.{nat_cmp, is_eq}
-use Rattle.std.proofs.Common.{refl, sym, ap, subst, ◌∙◌, inl, inr, ⊎_elim, eqb-true, eq-eqb}
 use Rattle.std.proofs.lemmas.Bool.{cond_both, cond-true, cond-false, both_ways, cases_Bool}
-use Rattle.ci_machine.specs.State.{without, without_all}
+use Rattle.ci_machine.specs.Prelude.{without, without_all}
 use Rattle.ci_machine.proofs.Keyed.{Has, Rising, one_at, has_filter, filter_has, filter_same, has_map, map_has, same, equal}
 use Rattle.ci_machine.proofs.Tests.{any_has, has_any}
 

@@ -8,12 +8,9 @@ use Rattle.std.specs.Str.{bytes_eq}
 use Rattle.serde_json.specs.Data.{Data, array, object, boolean, member, no_members, string, number, unsigned}
 use Rattle.serde_json.specs.View.{items_of}
 use Rattle.ci_board.specs.declared.facts.Status.{Status}
-use Rattle.ci_board.specs.declared.facts.Status.TheVariants as status
 use Rattle.ci_board.specs.declared.facts.Facts.{Facts}
 use Rattle.ci_board.specs.declared.facts.Row.{Row}
-use Rattle.ci_board.specs.Texts.{status_text}
-use Rattle.ci_board.specs.Rows.{statuses}
-use Rattle.ci_board.specs.PipelineStatus.{pipeline_status}
+use Rattle.ci_board.specs.Prelude.{status_text, statuses, pipeline_status}
 use Rattle.ci_machine.specs.declared.records.Pipeline.{Pipeline}
 use Rattle.ci_machine.specs.declared.records.Source.{Source}
 use Rattle.ci_machine.specs.declared.records.Source.TheVariants.{Push, Web, Schedule, Api, Trigger}
@@ -62,7 +59,7 @@ mode_data group order = object (member (codes "key") (string group) (member (cod
 
 -- the status of a job of a project as it is printed: one that is pending waits for its resource group while one of these claims is on that
 abbrev pub printed_status : List Claim → ℕ → Job → Status → List ℕ
-printed_status claims project j status.Pending = if is_free claims project j.options.resource_group then status_text status.Pending else codes "waiting_for_resource"
+printed_status claims project j Status.Pending = if is_free claims project j.options.resource_group then status_text Status.Pending else codes "waiting_for_resource"
 printed_status claims project j s = status_text s
 
 -- a job with its status: {"id":..,"name":..,"stage":..,"status":..}

@@ -85,7 +85,3 @@ holds_group attempt q = map Hold (group_held attempt q.project q.job.options.res
 
 abbrev pub freed : Holder → IndexChange
 freed h = Free h.project h.group
-
--- these attempts end, which were live
-abbrev pub frees_groups : State → List Attempt → List IndexChange
-frees_groups s ended = map freed (flat_map (held_of s) ended)

@@ -2,11 +2,7 @@
 use Rattle.std.specs.Prelude.{ℕ, ◌+◌, Bool, true, false, List, find, if◌then◌else◌, nat_le, ◌==◌, min, max, Option, Some, None, Result, Ok, Err}
 use Rattle.std.specs.Result.{result_map_both}
 use Rattle.ci_machine.specs.declared.records.Attempt.{Attempt}
-use Rattle.ci_values.specs.declared.attempts.AttemptState.{AttemptState}
-use Rattle.ci_values.specs.declared.attempts.AttemptState.TheVariants.{Live, Succeeded, Failed, Cancelled}
-use Rattle.ci_values.specs.declared.attempts.Cause.{Cause}
-use Rattle.ci_values.specs.declared.attempts.Cause.TheVariants.{JobExecutionTimeout, StuckOrTimeoutFailure}
-use Rattle.ci_values.specs.Attempts.{is_live_state}
+use Rattle.ci_board.specs.Prelude.{AttemptState, Live, Succeeded, Failed, Cancelled, Cause, JobExecutionTimeout, StuckOrTimeoutFailure, is_live_state}
 use Rattle.ci_machine.specs.declared.limits.TheConstants.{LEASE_SECONDS, MAX_TRACE_BYTES}
 use Rattle.ci_machine.specs.declared.lease.Lease.{Lease}
 use Rattle.ci_machine.specs.declared.lease.LeaseFault.{LeaseFault}

@@ -16,3 +16,4 @@ pub mod Leases
 pub mod Indexes
 pub mod Ranges
 pub mod ReportRows
+pub mod Prelude

@@ -2,19 +2,12 @@
 use Rattle.std.specs.Prelude.{ℕ, Bool, true, false, List, [], ◌∷◌, map, filter, find, ◌==◌, codes, Option, Some, None}
 use Rattle.serde_json.specs.Data.{Data, array, object, boolean, null, member, no_members, string, number, unsigned}
 use Rattle.serde_json.specs.View.{items_of}
-use Rattle.ci_values.specs.declared.attempts.AttemptState.{AttemptState}
-use Rattle.ci_values.specs.declared.attempts.AttemptState.TheVariants.{Live, Succeeded, Failed, Cancelled}
-use Rattle.ci_values.specs.declared.attempts.Cause.{Cause}
-use Rattle.ci_values.specs.declared.attempts.Cause.TheVariants.{UnknownFailure, ScriptFailure, ApiFailure, StuckOrTimeoutFailure, RunnerSystemFailure, JobExecutionTimeout}
-use Rattle.ci_values.specs.declared.when.When.{When}
-use Rattle.ci_values.specs.declared.when.When.TheVariants.{OnSuccess, OnFailure, Always, Manual}
+use Rattle.ci_board.specs.Prelude.{AttemptState, Live, Succeeded, Failed, Cancelled, Cause, UnknownFailure, ScriptFailure, ApiFailure, StuckOrTimeoutFailure, RunnerSystemFailure}
+use Rattle.ci_board.specs.Prelude.{JobExecutionTimeout, When, OnSuccess, OnFailure, Always, Manual, status_text, is_allowed}
 use Rattle.ci_board.specs.declared.facts.Facts.{Facts}
 use Rattle.ci_board.specs.declared.facts.Row.{Row}
-use Rattle.ci_board.specs.Texts.{status_text}
-use Rattle.ci_board.specs.Effects.{is_allowed}
 use Rattle.ci_machine.specs.declared.records.Project.{Project}
 use Rattle.ci_machine.specs.declared.records.RefKind.{RefKind}
-use Rattle.ci_machine.specs.declared.records.RefKind.TheVariants as ref
 use Rattle.ci_machine.specs.declared.records.PipelineWithStatus.{PipelineWithStatus}
 use Rattle.ci_machine.specs.declared.records.Runner.{Runner}
 use Rattle.ci_machine.specs.declared.records.Attempt.{Attempt}
@@ -64,8 +57,8 @@ project_data p = object (member (codes "id") (number (unsigned p.id)) (member (c
 -- ---- a pipeline: {"created_at":..,"id":..,"ref":..,"source":..,"status":..,"tag":..}
 
 abbrev pub is_tag : RefKind → Bool
-is_tag ref.Branch = false
-is_tag ref.Tag = true
+is_tag RefKind.Branch = false
+is_tag RefKind.Tag = true
 
 abbrev pub listed_pipeline_data : PipelineWithStatus → Data
 listed_pipeline_data p =

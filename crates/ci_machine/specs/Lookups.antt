@@ -2,8 +2,8 @@
 use Rattle.std.specs.Prelude.{ℕ, Bool, List, [], filter, find, map, reverse, ◌==◌, ◌&&◌, Option, Some, None, option_map, option_and_then}
 use Rattle.std.specs.List.{last_or}
 use Rattle.std.specs.Str.{bytes_eq}
-use Rattle.ci_board.specs.declared.facts.Status.TheVariants as status
-use Rattle.ci_board.specs.Effects.{is_status}
+use Rattle.ci_board.specs.declared.facts.Status.{Status}
+use Rattle.ci_board.specs.Prelude.{is_status}
 use Rattle.ci_machine.specs.declared.records.Project.{Project}
 use Rattle.ci_machine.specs.declared.records.Variable.{Variable}
 use Rattle.ci_machine.specs.declared.records.Runner.{Runner}
@@ -17,7 +17,6 @@ use Rattle.ci_machine.specs.declared.records.Numbers.{Numbers}
 use Rattle.ci_machine.specs.declared.records.BoardRow.{BoardRow}
 use Rattle.ci_machine.specs.declared.lease.Lease.{Lease}
 use Rattle.ci_machine.specs.declared.change.Counter.{Counter}
-use Rattle.ci_machine.specs.declared.change.Counter.TheVariants as counter
 use Rattle.ci_machine.specs.State.{State, trace_in}
 use Rattle.ci_machine.specs.Statuses.{attempts_of, status_for}
 use Rattle.ci_machine.specs.Leases.{is_live}
@@ -99,7 +98,7 @@ leases s = map (lease_of s) (live_attempts s)
 
 -- a job is pending where its row says so
 abbrev pub is_pending : List BoardRow → Job → Bool
-is_pending board job = is_status (status_for board job.id) status.Pending
+is_pending board job = is_status (status_for board job.id) Status.Pending
 
 abbrev pub pending_jobs : State → List BoardRow → List Job
 pending_jobs s board = filter (is_pending board) s.jobs
@@ -127,8 +126,8 @@ trace_if_any s (Some a) = trace_of s a.id
 
 -- the next number of a kind
 abbrev pub next_of : Counter → Numbers → ℕ
-next_of counter.Project next = next.project
-next_of counter.Runner next = next.runner
-next_of counter.Pipeline next = next.pipeline
-next_of counter.Job next = next.job
-next_of counter.Attempt next = next.attempt
+next_of Counter.Project next = next.project
+next_of Counter.Runner next = next.runner
+next_of Counter.Pipeline next = next.pipeline
+next_of Counter.Job next = next.job
+next_of Counter.Attempt next = next.attempt

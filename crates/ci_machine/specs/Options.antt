@@ -1,6 +1,6 @@
 -- What is fixed of a job when its pipeline is made.
 use Rattle.std.specs.Prelude.{ℕ, List, [], false, None}
-use Rattle.ci_graph.specs.JobGraph.{no_part}
+use Rattle.ci_board.specs.Prelude.{no_part}
 use Rattle.ci_machine.specs.declared.limits.TheConstants.{DEFAULT_TIMEOUT_SECONDS}
 use Rattle.ci_machine.specs.declared.records.JobOptions.{JobOptions}
 

@@ -1,8 +1,7 @@
--- What is looked up by a range of job numbers, by a status, and page by page.
-use Rattle.std.specs.Prelude.{ℕ, Bool, ◌&&◌, List, filter, find, take, nat_lt, nat_le, ◌==◌, Option}
+-- What is looked up by a range of job numbers, and by a status.
+use Rattle.std.specs.Prelude.{ℕ, Bool, ◌&&◌, List, filter, find, nat_le, ◌==◌, Option}
 use Rattle.ci_board.specs.declared.facts.Status.{Status}
-use Rattle.ci_board.specs.declared.facts.Status.TheVariants as status
-use Rattle.ci_board.specs.Effects.{is_status}
+use Rattle.ci_board.specs.Prelude.{is_status}
 use Rattle.ci_machine.specs.declared.records.Need.{Need}
 use Rattle.ci_machine.specs.declared.records.Attempt.{Attempt}
 use Rattle.ci_machine.specs.declared.records.BoardRow.{BoardRow}
@@ -26,11 +25,3 @@ row_at job board = find (λ r. r.job == job) board
 -- the rows with this status, by job
 abbrev pub rows_with : Status → List BoardRow → List BoardRow
 rows_with s board = filter (λ r. is_status r.row.status s) board
-
--- the row is that of a pending job behind this one
-abbrev pub is_pending_after : ℕ → BoardRow → Bool
-is_pending_after job r = is_status r.row.status status.Pending && nat_lt job r.job
-
--- the first so many pending rows behind a job
-abbrev pub pending_after : ℕ → ℕ → List BoardRow → List BoardRow
-pending_after count job board = take count (filter (is_pending_after job) board)

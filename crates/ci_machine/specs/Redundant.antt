@@ -3,7 +3,6 @@ use Rattle.std.specs.Prelude.{Bool, true, false, ◌&&◌, not, List, map, find,
 use Rattle.std.specs.List.{list_any}
 use Rattle.std.specs.Str.{bytes_eq}
 use Rattle.ci_board.specs.declared.facts.Status.{Status}
-use Rattle.ci_board.specs.declared.facts.Status.TheVariants as status
 use Rattle.ci_machine.specs.declared.records.RefKind.{RefKind}
 use Rattle.ci_machine.specs.declared.records.RefKind.TheVariants.{Branch, Tag}
 use Rattle.ci_machine.specs.declared.records.Pipeline.{Pipeline}
@@ -13,9 +12,9 @@ use Rattle.ci_machine.specs.declared.records.AttemptWithJob.{AttemptWithJob}
 
 -- a pipeline of this status isn't finished
 abbrev pub is_unfinished : Status → Bool
-is_unfinished status.Pending = true
-is_unfinished status.Running = true
-is_unfinished status.Manual = true
+is_unfinished Status.Pending = true
+is_unfinished Status.Running = true
+is_unfinished Status.Manual = true
 is_unfinished _ = false
 
 abbrev pub same_kind : RefKind → RefKind → Bool

@@ -1,8 +1,7 @@
 -- Replies: their statuses, the details of faults, and the bodies of refusals.
 use Rattle.std.specs.Prelude.{ℕ, List, [], ◌++◌, Option, Some, None, codes}
 use Rattle.std.specs.Fmt.{decimal}
-use Rattle.ci_values.specs.declared.attempts.AttemptState.{AttemptState}
-use Rattle.ci_values.specs.declared.attempts.AttemptState.TheVariants.{Live, Succeeded, Failed, Cancelled}
+use Rattle.ci_board.specs.Prelude.{AttemptState, Live, Succeeded, Failed, Cancelled}
 use Rattle.ci_machine.specs.declared.reply.HttpStatus.{HttpStatus}
 use Rattle.ci_machine.specs.declared.reply.HttpStatus.TheVariants.{BadRequest, Unauthorized, Forbidden, NotFound, MethodNotAllowed, LengthRequired, PayloadTooLarge, RangeNotSatisfiable, HeaderFieldsTooLarge, NotImplemented, ServiceUnavailable}
 use Rattle.ci_machine.specs.declared.reply.Code.{Code}
@@ -10,15 +9,12 @@ use Rattle.ci_machine.specs.declared.reply.Code.TheVariants.{M1, M2, M3, M4, M5,
 use Rattle.ci_machine.specs.declared.reply.FaultCode.{FaultCode}
 use Rattle.ci_machine.specs.declared.reply.FaultCode.TheVariants.{G, K, X, Y}
 use Rattle.ci_machine.specs.declared.reply.Detail.{Detail}
-use Rattle.ci_machine.specs.declared.reply.Detail.TheVariants as detail
 use Rattle.ci_machine.specs.declared.reply.JobStatus.{JobStatus}
-use Rattle.ci_machine.specs.declared.reply.JobStatus.TheVariants as job_status
 use Rattle.ci_machine.specs.declared.reply.Body.{Body}
 use Rattle.ci_machine.specs.declared.reply.Body.TheVariants.{Json, Plain}
 use Rattle.ci_machine.specs.declared.reply.Reply.{Reply}
 use Rattle.ci_machine.specs.declared.reply.Answer.{Answer}
-use Rattle.ci_machine.specs.declared.reply.Answer.TheVariants as answer
-use Rattle.ci_machine.specs.declared.reply.Swept.TheVariants as swept
+use Rattle.ci_machine.specs.declared.reply.Swept.{Swept}
 
 -- the status of a refusal
 abbrev pub status_of : Code → HttpStatus
@@ -78,16 +74,16 @@ code_text H8 = codes "H8"
 
 -- the status of an attempt in this state, as its runner and a user are told it
 abbrev pub status_of_state : AttemptState → JobStatus
-status_of_state Live = job_status.Running
-status_of_state (Succeeded exit) = job_status.Success
-status_of_state (Failed cause exit) = job_status.Failed
-status_of_state Cancelled = job_status.Canceled
+status_of_state Live = JobStatus.Running
+status_of_state (Succeeded exit) = JobStatus.Success
+status_of_state (Failed cause exit) = JobStatus.Failed
+status_of_state Cancelled = JobStatus.Canceled
 
 abbrev pub status_text : JobStatus → List ℕ
-status_text job_status.Running = codes "running"
-status_text job_status.Success = codes "success"
-status_text job_status.Failed = codes "failed"
-status_text job_status.Canceled = codes "canceled"
+status_text JobStatus.Running = codes "running"
+status_text JobStatus.Success = codes "success"
+status_text JobStatus.Failed = codes "failed"
+status_text JobStatus.Canceled = codes "canceled"
 
 -- the code of a fault as it is printed: its letter and its number
 abbrev pub letter_of : FaultCode → List ℕ
@@ -107,10 +103,10 @@ fault_text code = letter_of code ++ decimal (number_of code)
 
 -- a fault with what more is said of it: `G3`, `K2 image`, `K13 X2`, `Y5 line 3`
 abbrev pub detail_text : Detail → List ℕ
-detail_text (detail.Code code) = fault_text code
-detail_text (detail.Keyword code keyword) = fault_text code ++ codes " " ++ keyword
-detail_text (detail.Expression code inner) = fault_text code ++ codes " " ++ fault_text inner
-detail_text (detail.Line code line) = fault_text code ++ codes " line " ++ decimal line
+detail_text (Detail.Code code) = fault_text code
+detail_text (Detail.Keyword code keyword) = fault_text code ++ codes " " ++ keyword
+detail_text (Detail.Expression code inner) = fault_text code ++ codes " " ++ fault_text inner
+detail_text (Detail.Line code line) = fault_text code ++ codes " line " ++ decimal line
 
 -- the body of a refusal that has no detail
 abbrev pub refusal_text : Code → List ℕ
@@ -144,8 +140,8 @@ outcome_by (Some M17) = StoreFailed
 outcome_by _ = Stepped
 
 abbrev pub outcome_of : Answer → Outcome
-outcome_of (answer.Reply reply) = outcome_by reply.code
-outcome_of (answer.Swept (swept.Refused code)) = outcome_by (Some code)
-outcome_of (answer.Swept (swept.Ended attempt cause)) = Stepped
-outcome_of (answer.Swept (swept.Cancelled pipeline)) = Stepped
-outcome_of (answer.Swept swept.Nothing) = Stepped
+outcome_of (Answer.Reply reply) = outcome_by reply.code
+outcome_of (Answer.Swept (Swept.Refused code)) = outcome_by (Some code)
+outcome_of (Answer.Swept (Swept.Ended attempt cause)) = Stepped
+outcome_of (Answer.Swept (Swept.Cancelled pipeline)) = Stepped
+outcome_of (Answer.Swept Swept.Nothing) = Stepped

@@ -1,8 +1,7 @@
 -- The rows that reports have of a state.
 use Rattle.std.specs.Prelude.{ℕ, Bool, List, length, map, filter, codes, ◌==◌, option_map, if◌then◌else◌}
 use Rattle.ci_board.specs.declared.facts.Status.{Status}
-use Rattle.ci_board.specs.declared.facts.Status.TheVariants as status
-use Rattle.ci_board.specs.Texts.{status_text}
+use Rattle.ci_board.specs.Prelude.{status_text}
 use Rattle.ci_machine.specs.declared.records.Claim.{Claim}
 use Rattle.ci_machine.specs.declared.records.Pipeline.{Pipeline}
 use Rattle.ci_machine.specs.declared.records.Job.{Job}
@@ -25,10 +24,10 @@ use Rattle.ci_machine.specs.Waiting.{groups_in, claims_in}
 
 -- of a pending job, by whether its resource group is free
 abbrev pub pending_status : Bool → ShownStatus
-pending_status free = if free then Plain status.Pending else WaitsForResource
+pending_status free = if free then Plain Status.Pending else WaitsForResource
 
 abbrev pub shown_status : List Claim → ℕ → Job → Status → ShownStatus
-shown_status claims project j status.Pending = pending_status (is_free claims project j.options.resource_group)
+shown_status claims project j Status.Pending = pending_status (is_free claims project j.options.resource_group)
 shown_status claims project j s = Plain s
 
 abbrev pub shown_text : ShownStatus → List ℕ

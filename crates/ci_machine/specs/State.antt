@@ -15,11 +15,8 @@ use Rattle.ci_machine.specs.declared.records.Trace.{Trace}
 use Rattle.ci_machine.specs.declared.records.GroupMode.{GroupMode}
 use Rattle.ci_machine.specs.declared.records.Numbers.{Numbers}
 use Rattle.ci_machine.specs.declared.change.Record.{Record}
-use Rattle.ci_machine.specs.declared.change.Record.TheVariants as row
 use Rattle.ci_machine.specs.declared.change.Key.{Key}
-use Rattle.ci_machine.specs.declared.change.Key.TheVariants as key
 use Rattle.ci_machine.specs.declared.change.Counter.{Counter}
-use Rattle.ci_machine.specs.declared.change.Counter.TheVariants as counter
 use Rattle.ci_machine.specs.declared.change.RowChange.{RowChange}
 use Rattle.ci_machine.specs.declared.change.RowChange.TheVariants.{Put, Append, Remove}
 
@@ -99,37 +96,37 @@ without_all id [] xs = xs
 without_all id (n ∷ ns) xs = without_all id ns (without id n xs)
 
 abbrev pub with_next : Counter → ℕ → Numbers → Numbers
-with_next counter.Project n next = record next { project = n }
-with_next counter.Runner n next = record next { runner = n }
-with_next counter.Pipeline n next = record next { pipeline = n }
-with_next counter.Job n next = record next { job = n }
-with_next counter.Attempt n next = record next { attempt = n }
+with_next Counter.Project n next = record next { project = n }
+with_next Counter.Runner n next = record next { runner = n }
+with_next Counter.Pipeline n next = record next { pipeline = n }
+with_next Counter.Job n next = record next { job = n }
+with_next Counter.Attempt n next = record next { attempt = n }
 
 abbrev pub with_record : Record → State → State
-with_record (row.Project p) s = record s { projects = put project_cmp p s.projects }
-with_record (row.Variable v) s = record s { variables = put variable_cmp v s.variables }
-with_record (row.Runner r) s = record s { runners = put runner_cmp r s.runners }
-with_record (row.Pipeline p) s = record s { pipelines = put pipeline_cmp p s.pipelines }
-with_record (row.Job j) s = record s { jobs = put job_cmp j s.jobs }
-with_record (row.JobVariable v) s = record s { job_variables = put job_variable_cmp v s.job_variables }
-with_record (row.Need n) s = record s { needs = put need_cmp n s.needs }
-with_record (row.Attempt a) s = record s { attempts = put attempt_cmp a s.attempts }
-with_record (row.Mode m) s = record s { modes = put mode_cmp m s.modes }
-with_record (row.Next c n) s = record s { next = with_next c n s.next }
+with_record (Record.Project p) s = record s { projects = put project_cmp p s.projects }
+with_record (Record.Variable v) s = record s { variables = put variable_cmp v s.variables }
+with_record (Record.Runner r) s = record s { runners = put runner_cmp r s.runners }
+with_record (Record.Pipeline p) s = record s { pipelines = put pipeline_cmp p s.pipelines }
+with_record (Record.Job j) s = record s { jobs = put job_cmp j s.jobs }
+with_record (Record.JobVariable v) s = record s { job_variables = put job_variable_cmp v s.job_variables }
+with_record (Record.Need n) s = record s { needs = put need_cmp n s.needs }
+with_record (Record.Attempt a) s = record s { attempts = put attempt_cmp a s.attempts }
+with_record (Record.Mode m) s = record s { modes = put mode_cmp m s.modes }
+with_record (Record.Next c n) s = record s { next = with_next c n s.next }
 
 abbrev pub without_record : Key → State → State
-without_record (key.Project n) s = record s { projects = without (λ p. p.id) n s.projects }
-without_record (key.Variable n name) s = record s { variables = filter (λ v. not (is_eq (ordering_then (nat_cmp v.project n) (slice_cmp nat_cmp v.key name)))) s.variables }
-without_record (key.Runner n) s = record s { runners = without (λ r. r.id) n s.runners }
-without_record (key.Pipeline n) s = record s { pipelines = without (λ p. p.id) n s.pipelines }
-without_record (key.Job n) s = record s { jobs = without (λ j. j.id) n s.jobs }
-without_record (key.JobVariable n name) s = record s { job_variables = filter (λ v. not (is_eq (ordering_then (nat_cmp v.job n) (slice_cmp nat_cmp v.key name)))) s.job_variables }
-without_record (key.JobVariables n) s = record s { job_variables = without (λ v. v.job) n s.job_variables }
-without_record (key.Need n pred) s = record s { needs = filter (λ w. not (is_eq (ordering_then (nat_cmp w.job n) (nat_cmp w.pred pred)))) s.needs }
-without_record (key.Needs n) s = record s { needs = without (λ w. w.job) n s.needs }
-without_record (key.Attempt n) s = record s { attempts = without (λ a. a.id) n s.attempts }
-without_record (key.Mode n name) s = record s { modes = filter (λ m. not (is_eq (ordering_then (nat_cmp m.project n) (slice_cmp nat_cmp m.group name)))) s.modes }
-without_record (key.Trace n) s = record s { traces = without (λ t. t.attempt) n s.traces }
+without_record (Key.Project n) s = record s { projects = without (λ p. p.id) n s.projects }
+without_record (Key.Variable n name) s = record s { variables = filter (λ v. not (is_eq (ordering_then (nat_cmp v.project n) (slice_cmp nat_cmp v.key name)))) s.variables }
+without_record (Key.Runner n) s = record s { runners = without (λ r. r.id) n s.runners }
+without_record (Key.Pipeline n) s = record s { pipelines = without (λ p. p.id) n s.pipelines }
+without_record (Key.Job n) s = record s { jobs = without (λ j. j.id) n s.jobs }
+without_record (Key.JobVariable n name) s = record s { job_variables = filter (λ v. not (is_eq (ordering_then (nat_cmp v.job n) (slice_cmp nat_cmp v.key name)))) s.job_variables }
+without_record (Key.JobVariables n) s = record s { job_variables = without (λ v. v.job) n s.job_variables }
+without_record (Key.Need n pred) s = record s { needs = filter (λ w. not (is_eq (ordering_then (nat_cmp w.job n) (nat_cmp w.pred pred)))) s.needs }
+without_record (Key.Needs n) s = record s { needs = without (λ w. w.job) n s.needs }
+without_record (Key.Attempt n) s = record s { attempts = without (λ a. a.id) n s.attempts }
+without_record (Key.Mode n name) s = record s { modes = filter (λ m. not (is_eq (ordering_then (nat_cmp m.project n) (slice_cmp nat_cmp m.group name)))) s.modes }
+without_record (Key.Trace n) s = record s { traces = without (λ t. t.attempt) n s.traces }
 
 abbrev pub bytes_or_none : Option Trace → List ℕ
 bytes_or_none None = []

@@ -2,13 +2,10 @@
 -- which, and from their attempts.
 use Rattle.std.specs.Prelude.{◌≡◌, ℕ, ◌-◌, List, [], length, map, filter, find, count_by, nat_lt, ◌==◌, Option, Some, None, option_map}
 use Rattle.std.specs.List.{last_or, range_with_len}
-use Rattle.ci_graph.specs.Lists.{is_among, distinct}
-use Rattle.ci_graph.specs.Pairs.{firsts_of}
-use Rattle.ci_graph.specs.JobGraph.{JobGraph}
+use Rattle.ci_board.specs.Prelude.{is_among, distinct, firsts_of, JobGraph, AreRows, no_row}
 use Rattle.ci_board.specs.declared.facts.Facts.{Facts}
 use Rattle.ci_board.specs.declared.facts.Row.{Row}
 use Rattle.ci_board.specs.declared.facts.Status.{Status}
-use Rattle.ci_board.specs.Rows.{AreRows, no_row}
 use Rattle.ci_machine.specs.declared.records.Job.{Job}
 use Rattle.ci_machine.specs.declared.records.Need.{Need}
 use Rattle.ci_machine.specs.declared.records.Attempt.{Attempt}

@@ -1,7 +1,6 @@
 -- The jobs that wait, and how the resource groups of a state stand.
 use Rattle.std.specs.Prelude.{ℕ, Bool, true, false, List, [], ◌∷◌, filter, flat_map, ◌==◌, Option, Some, None, find}
 use Rattle.ci_board.specs.declared.facts.Status.{Status}
-use Rattle.ci_board.specs.declared.facts.Status.TheVariants as status
 use Rattle.ci_machine.specs.declared.records.AttemptWithJob.{AttemptWithJob}
 use Rattle.ci_machine.specs.declared.records.BoardRow.{BoardRow}
 use Rattle.ci_machine.specs.declared.records.Claim.{Claim}
@@ -23,8 +22,8 @@ waits_for project pipeline pending (Some group) = record { project = project; gr
 
 -- what the job waits for by its status: one that is created waits as one that is pending does, and no other
 abbrev pub waits_as : QueuedJob → Status → List WaitingJob
-waits_as q status.Created = waits_for q.project q.job.pipeline false q.job.options.resource_group
-waits_as q status.Pending = waits_for q.project q.job.pipeline true q.job.options.resource_group
+waits_as q Status.Created = waits_for q.project q.job.pipeline false q.job.options.resource_group
+waits_as q Status.Pending = waits_for q.project q.job.pipeline true q.job.options.resource_group
 waits_as q _ = []
 
 -- the jobs with a resource group that are created or pending, by number

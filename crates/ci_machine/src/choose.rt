@@ -1,7 +1,6 @@
 //! Which waiting job a runner is given.
 
-ghost use Rattle.std.specs.Prelude.{◌≡◌, Some};
-ghost use Rattle.std.specs.Option.{option_copied};
+ghost use Rattle.std.specs.Prelude.{◌≡◌, Some, option_copied};
 ghost use Rattle.std.specs.List.{list_any, list_all};
 ghost use Rattle.ci_machine.specs.Eligible.{is_open_to, has_tag, takes, may_run, holds, claims_group, is_free, resource_free, is_eligible, chosen};
 ghost use Rattle.ci_machine.specs.Groups.{is_in_line, goes_before, goes_before_in, is_behind, order_of};

@@ -1,8 +1,7 @@
 //! Which pipeline a newer one makes redundant.
 
-ghost use Rattle.std.specs.Prelude.{◌≡◌};
+ghost use Rattle.std.specs.Prelude.{◌≡◌, option_copied};
 ghost use Rattle.std.specs.List.{list_any};
-ghost use Rattle.std.specs.Option.{option_copied};
 ghost use Rattle.ci_machine.specs.Redundant.{is_unfinished, same_kind, is_newer_of, is_bound_to, is_redundant, first_redundant, tried_in};
 
 use crate::records::{AttemptWithJob, Job, Pipeline, PipelineWithStatus, RefKind};

@@ -1,20 +1,8 @@
 -- What a user does to jobs: which records it puts, and which state it leads to.
-use Rattle.std.specs.Prelude.{◌≡◌, ◌⊎◌, ℕ, ◌==◌, true, false, List, [], ◌∷◌, ◌++◌, length, map, filter}
-use Rattle.std.proofs.Common.{refl, sym, ap, ◌∙◌, inl, inr, ⊎_elim}
+use Rattle.std.proofs.Common.{◌≡◌, ◌⊎◌, ℕ, ◌==◌, true, false, List, [], ◌∷◌, ◌++◌, length, map, filter, refl, sym, ap, ◌∙◌, inl, inr, ⊎_elim}
 use Rattle.std.proofs.lemmas.Bool.{and_parts}
-use Rattle.ci_machine.specs.declared.records.Job.{Job}
-use Rattle.ci_machine.specs.declared.records.Attempt.{Attempt}
-use Rattle.ci_machine.specs.declared.records.BoardRow.{BoardRow}
-use Rattle.ci_machine.specs.declared.change.RowChange.{RowChange}
-use Rattle.ci_machine.specs.declared.change.RowChange.TheVariants.{Put}
-use Rattle.ci_machine.specs.declared.change.Record.TheVariants as row
-use Rattle.ci_machine.specs.State.{State, put, job_cmp, attempt_cmp, applied}
-use Rattle.ci_machine.specs.Statuses.{jobs_of, attempts_of, status_for}
-use Rattle.ci_machine.specs.Leases.{is_live}
-use Rattle.ci_machine_steps.specs.Plays.{play}
-use Rattle.ci_machine_steps.specs.Retries.{retry}
-use Rattle.ci_machine_steps.specs.Cancels.{is_cancellable, cancellable_jobs, is_lease_on, cancelled_job, cancelled_attempt, cancel}
-use Rattle.ci_machine_steps.specs.Laws.{job_for_good}
+use Rattle.ci_machine_steps.specs.Prelude.{Job, Attempt, BoardRow, RowChange, Put, Record, State, put, job_cmp, attempt_cmp, applied, jobs_of, attempts_of, status_for, is_live}
+use Rattle.ci_machine_steps.specs.Prelude.{play, retry, is_cancellable, cancellable_jobs, is_lease_on, cancelled_job, cancelled_attempt, cancel, job_for_good}
 use Rattle.ci_machine.proofs.Keyed.{Has, has_filter, map_has}
 use Rattle.ci_machine_steps.proofs.Behind.{put_all, has_all}
 use Rattle.ci_machine_steps.proofs.Created.{applied_append}
@@ -38,7 +26,7 @@ pub record WasLive (s : State) (a : Attempt) : Type 0 where
 pub record IsAct (s : State) (changes : List RowChange) : Type 0 where
   pub jobs : List Job
   pub attempts : List Attempt
-  pub is : changes ≡ map (λ j. Put (row.Job j)) jobs ++ map (λ a. Put (row.Attempt a)) attempts
+  pub is : changes ≡ map (λ j. Put (Record.Job j)) jobs ++ map (λ a. Put (Record.Attempt a)) attempts
   pub each_job : (j : Job) → Has j jobs → WasJob s j
   pub each_attempt : (a : Attempt) → Has a attempts → WasLive s a
 
@@ -65,8 +53,8 @@ retries s job has = record {
 pub cancels : (s : State) (jobs : List Job) → ((j : Job) → Has j jobs → Has j s.jobs) → IsAct s (cancel s.attempts jobs)
 cancels s jobs within =
     let leases = filter (is_lease_on jobs) s.attempts in
-    let put_jobs = map_twice (λ (j : Job). Put (row.Job j)) cancelled_job jobs in
-    let put_attempts = map_twice (λ (a : Attempt). Put (row.Attempt a)) cancelled_attempt leases in
+    let put_jobs = map_twice (λ (j : Job). Put (Record.Job j)) cancelled_job jobs in
+    let put_attempts = map_twice (λ (a : Attempt). Put (Record.Attempt a)) cancelled_attempt leases in
     record {
       jobs = map cancelled_job jobs;
       attempts = map cancelled_attempt leases;
@@ -95,18 +83,18 @@ cancellable_within s board pipeline j k =
 pub after_act : (s : State) (changes : List RowChange) (act : IsAct s changes)
     → applied changes s ≡ record s { jobs = put_all job_cmp act.jobs s.jobs; attempts = put_all attempt_cmp act.attempts s.attempts }
 after_act s changes act =
-    let js = map (λ (j : Job). Put (row.Job j)) act.jobs in
-    let as_live = map (λ (a : Attempt). Put (row.Attempt a)) act.attempts in
+    let js = map (λ (j : Job). Put (Record.Job j)) act.jobs in
+    let as_live = map (λ (a : Attempt). Put (Record.Attempt a)) act.attempts in
     ap (λ cs. applied cs s) act.is
     ∙ (applied_append js as_live s
     ∙ (ap (applied as_live) (jobs_put act.jobs s)
     ∙ attempts_put act.attempts (record s { jobs = put_all job_cmp act.jobs s.jobs })))
   where
-    jobs_put : (js : List Job) (r : State) → applied (map (λ j. Put (row.Job j)) js) r ≡ record r { jobs = put_all job_cmp js r.jobs }
+    jobs_put : (js : List Job) (r : State) → applied (map (λ j. Put (Record.Job j)) js) r ≡ record r { jobs = put_all job_cmp js r.jobs }
     jobs_put [] r = refl
     jobs_put (j ∷ js) r = jobs_put js (record r { jobs = put job_cmp j r.jobs })
 
-    attempts_put : (xs : List Attempt) (r : State) → applied (map (λ a. Put (row.Attempt a)) xs) r ≡ record r { attempts = put_all attempt_cmp xs r.attempts }
+    attempts_put : (xs : List Attempt) (r : State) → applied (map (λ a. Put (Record.Attempt a)) xs) r ≡ record r { attempts = put_all attempt_cmp xs r.attempts }
     attempts_put [] r = refl
     attempts_put (a ∷ xs) r = attempts_put xs (record r { attempts = put attempt_cmp a r.attempts })
 

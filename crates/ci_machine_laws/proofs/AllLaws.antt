@@ -1,15 +1,8 @@
 -- All that holds of every state that a history leads to.
-use Rattle.std.specs.Prelude.{◌≡◌, ◌⊎◌, true, false, List, [], ◌∷◌, map, Contains}
-use Rattle.std.proofs.Common.{refl, sym, subst, inl, inr, ⊎_elim, arith}
-use Rattle.ci_machine.specs.declared.records.BoardRow.{BoardRow}
-use Rattle.ci_machine.specs.declared.records.Pipeline.{Pipeline}
-use Rattle.ci_machine.specs.declared.records.Job.{Job}
-use Rattle.ci_machine.specs.declared.records.Attempt.{Attempt}
-use Rattle.ci_machine.specs.State.{State, empty}
-use Rattle.ci_machine.specs.Statuses.{AreBoard}
-use Rattle.ci_machine.specs.Leases.{is_live}
-use Rattle.ci_machine_steps.specs.History.{Past, Leads}
-use Rattle.ci_machine_steps.specs.Laws.{grants, WasGranted, IsTraced, WasPruned, WentWithItsJob, EndsStay, Stay, project_for_good, runner_for_good, job_for_good, attempt_for_good, Stays, IsSweptBy, IsPrunedBy, is_grant, GivesInOrder, Laws}
+use Rattle.std.proofs.Common.{◌≡◌, ◌⊎◌, true, false, List, [], ◌∷◌, map, Contains, refl, sym, subst, inl, inr, ⊎_elim, arith}
+use Rattle.ci_machine_steps.specs.Prelude.{BoardRow, Pipeline, Job, Attempt, State, empty, AreBoard, is_live, Past, Leads, grants, WasGranted, IsTraced, WasPruned, WentWithItsJob}
+use Rattle.ci_machine_steps.specs.Prelude.{EndsStay, Stay, project_for_good, runner_for_good, job_for_good, attempt_for_good, Stays, IsSweptBy, IsPrunedBy, is_grant, GivesInOrder}
+use Rattle.ci_machine_steps.specs.Prelude.{Laws}
 use Rattle.ci_machine.proofs.Keyed.{Has, has_filter, All-from_has, contains_from_has, has_from_contains, has_map}
 use Rattle.ci_machine_laws.proofs.Included.{was_included}
 use Rattle.ci_machine_laws.proofs.Grants.{WasGiven, one_lease}

@@ -1,29 +1,14 @@
 -- A state in which jobs and attempts stand otherwise, each in its place: the graphs of its pipelines are the same, and so is the status of each
 -- pipeline whose jobs have the facts that they had.
-use Rattle.std.specs.Prelude.{◌≡◌, ℕ, zero, suc, ◌-◌, ◌<◌, Bool, ◌==◌, ◌||◌, not, if◌then◌else◌, List, [], ◌∷◌, length, map, filter, option_map, None}
+use Rattle.std.proofs.Common.{◌≡◌, ℕ, zero, suc, ◌-◌, ◌<◌, Bool, ◌==◌, ◌||◌, not, if◌then◌else◌, List, [], ◌∷◌, length, map, filter, option_map, None, refl, sym, ap, subst, ◌∙◌}
+use Rattle.std.proofs.Common.{inl, inr, arith, map-id}
 use Rattle.std.specs.List.{last_or}
-use Rattle.std.proofs.Common.{refl, sym, ap, subst, ◌∙◌, inl, inr, arith, map-id}
 use Rattle.std.proofs.lemmas.Bool.{cond_both, cond-true, cond-false}
 use Rattle.std.proofs.lemmas.List.{length-map}
-use Rattle.ci_graph.specs.declared.part.Part.{Part}
-use Rattle.ci_graph.specs.JobGraph.{JobGraph}
-use Rattle.ci_board.specs.declared.facts.Facts.{Facts}
-use Rattle.ci_board.specs.declared.facts.Status.{Status}
-use Rattle.ci_board.specs.declared.facts.Status.TheVariants as status
-use Rattle.ci_board.specs.Rows.{statuses, facts_at}
-use Rattle.ci_board.specs.Statuses.{IsAssignment}
-use Rattle.ci_board.specs.Effects.{is_status}
-use Rattle.ci_board.specs.PipelineStatus.{some_job, has_status, has_strict, has_attempt, pipeline_status}
-use Rattle.ci_machine.specs.declared.records.Attempt.{Attempt}
-use Rattle.ci_machine.specs.declared.records.BoardRow.{BoardRow}
-use Rattle.ci_machine.specs.declared.records.Job.{Job}
-use Rattle.ci_machine.specs.declared.records.JobOptions.{JobOptions}
-use Rattle.ci_machine.specs.declared.records.Pipeline.{Pipeline}
-use Rattle.ci_machine.specs.State.{State}
-use Rattle.ci_machine.specs.Statuses.{jobs_of, numbers_of, attempts_of, pairs_among, predecessors_by, graph_of, facts_in, facts_of, rows_of, AreBoard}
-use Rattle.ci_machine.specs.Indexes.{is_open_in}
-use Rattle.ci_machine.specs.Redundant.{is_unfinished}
-use Rattle.ci_machine_steps.specs.OneBoard.{HasOneBoard}
+use Rattle.ci_machine.specs.Prelude.{Part, JobGraph}
+use Rattle.ci_machine_steps.specs.Prelude.{Facts, Status, statuses, facts_at, IsAssignment, is_status, some_job, has_status, has_strict, has_attempt, pipeline_status, Attempt}
+use Rattle.ci_machine_steps.specs.Prelude.{BoardRow, Job, JobOptions, Pipeline, State, jobs_of, numbers_of, attempts_of, pairs_among, predecessors_by, graph_of, facts_in, facts_of}
+use Rattle.ci_machine_steps.specs.Prelude.{rows_of, AreBoard, is_open_in, is_unfinished, HasOneBoard}
 use Rattle.ci_machine.proofs.Keyed.{Has, has_filter}
 use Rattle.ci_machine_laws.proofs.PutAll.{map_twice}
 use Rattle.ci_machine_laws.proofs.Finished.{map_same}
@@ -59,20 +44,20 @@ some_same (suc n) f g e =
 pub status_same : (parts : List Part) (facts : List Facts) (a b : ℕ → Status) → ((k : ℕ) → k < length parts → a k ≡ b k) → pipeline_status parts facts a ≡ pipeline_status parts facts b
 status_same parts facts a b e =
     let n = length parts in
-    let runs = some_same n (has_status a status.Running) (has_status b status.Running) (λ k l. ap (is_status status.Running) (e k l)) in
-    let waits = some_same n (has_status a status.Pending) (has_status b status.Pending) (λ k l. ap (is_status status.Pending) (e k l)) in
-    let manual = some_same n (has_strict parts facts a status.Manual) (has_strict parts facts b status.Manual) (λ k l i. has_strict parts facts (λ _. e k l i) status.Manual k) in
-    let failed = some_same n (has_strict parts facts a status.Failed) (has_strict parts facts b status.Failed) (λ k l i. has_strict parts facts (λ _. e k l i) status.Failed k) in
-    let canceled = some_same n (has_strict parts facts a status.Canceled) (has_strict parts facts b status.Canceled) (λ k l i. has_strict parts facts (λ _. e k l i) status.Canceled k) in
-    let done = some_same n (λ j. not (is_status status.Skipped (a j) || is_status status.Manual (a j))) (λ j. not (is_status status.Skipped (b j) || is_status status.Manual (b j)))
-    (λ k l. ap (λ (s : Status). not (is_status status.Skipped s || is_status status.Manual s)) (e k l)) in
-    λ i. if runs i then status.Running
-    else if waits i then (if some_job n (λ j. has_attempt (facts_at facts j).last) then status.Running else status.Pending)
-    else if manual i then status.Manual
-    else if failed i then status.Failed
-    else if canceled i then status.Canceled
-    else if done i then status.Success
-    else status.Skipped
+    let runs = some_same n (has_status a Status.Running) (has_status b Status.Running) (λ k l. ap (is_status Status.Running) (e k l)) in
+    let waits = some_same n (has_status a Status.Pending) (has_status b Status.Pending) (λ k l. ap (is_status Status.Pending) (e k l)) in
+    let manual = some_same n (has_strict parts facts a Status.Manual) (has_strict parts facts b Status.Manual) (λ k l i. has_strict parts facts (λ _. e k l i) Status.Manual k) in
+    let failed = some_same n (has_strict parts facts a Status.Failed) (has_strict parts facts b Status.Failed) (λ k l i. has_strict parts facts (λ _. e k l i) Status.Failed k) in
+    let canceled = some_same n (has_strict parts facts a Status.Canceled) (has_strict parts facts b Status.Canceled) (λ k l i. has_strict parts facts (λ _. e k l i) Status.Canceled k) in
+    let done = some_same n (λ j. not (is_status Status.Skipped (a j) || is_status Status.Manual (a j))) (λ j. not (is_status Status.Skipped (b j) || is_status Status.Manual (b j)))
+    (λ k l. ap (λ (s : Status). not (is_status Status.Skipped s || is_status Status.Manual s)) (e k l)) in
+    λ i. if runs i then Status.Running
+    else if waits i then (if some_job n (λ j. has_attempt (facts_at facts j).last) then Status.Running else Status.Pending)
+    else if manual i then Status.Manual
+    else if failed i then Status.Failed
+    else if canceled i then Status.Canceled
+    else if done i then Status.Success
+    else Status.Skipped
 
 -- ---- the state
 

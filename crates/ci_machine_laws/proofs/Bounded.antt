@@ -1,41 +1,12 @@
 -- The numbers of jobs stay within their limit, in every state that a history leads to.
-use Rattle.std.specs.Prelude.{◌≡◌, ℕ, ◌+◌, ◌-◌, ◌≤◌, Bool, true, false, not, ◌||◌, nat_lt, List, [], ◌∷◌, length, Option, Some, None, Result, Ok, Err}
-use Rattle.std.proofs.Common.{refl, sym, ap, subst, arith}
+use Rattle.std.proofs.Common.{◌≡◌, ℕ, ◌+◌, ◌-◌, ◌≤◌, Bool, true, false, not, ◌||◌, nat_lt, List, [], ◌∷◌, length, Option, Some, None, Result, Ok, Err, refl, sym, ap, subst, arith}
 use Rattle.std.proofs.lemmas.Bool.{cond_both, false≢true, ltb-false}
-use Rattle.ci_values.specs.Names.{is_name}
-use Rattle.ci_values.specs.declared.limits.TheConstants.{MAX_NUMBER}
-use Rattle.ci_config.specs.declared.limits.TheConstants.{MAX_VARIABLES}
-use Rattle.ci_graph_layout.specs.Inclusion.{Given}
-use Rattle.ci_machine.specs.declared.lease.Lease.{Lease}
-use Rattle.ci_machine.specs.declared.records.BoardRow.{BoardRow}
-use Rattle.ci_machine.specs.declared.records.Project.{Project}
-use Rattle.ci_machine.specs.declared.records.Pipeline.{Pipeline}
-use Rattle.ci_machine.specs.declared.records.Job.{Job}
-use Rattle.ci_machine.specs.declared.records.Attempt.{Attempt}
-use Rattle.ci_machine.specs.declared.change.RowChange.{RowChange}
-use Rattle.ci_machine.specs.declared.change.RowChange.TheVariants.{Put}
-use Rattle.ci_machine.specs.declared.change.Record.TheVariants as row
-use Rattle.ci_machine.specs.declared.request.NewPipeline.{NewPipeline}
-use Rattle.ci_machine.specs.declared.request.Request.{Request}
-use Rattle.ci_machine.specs.declared.request.Request.TheVariants.{AddProject, AddRunner, PauseRunner, SetFile, SetVariable, DeleteVariable, SetMode, ShowMode, CreatePipeline, ShowPipeline, AskJob, UpdateJob, AppendTrace, ShowJob, ShowTrace, Read, Play, CancelJob, CancelPipeline, RetryJob, PruneOne}
-use Rattle.ci_machine.specs.declared.request.Event.{Event}
-use Rattle.ci_machine.specs.declared.request.Event.TheVariants as event
-use Rattle.ci_machine.specs.declared.request.Seed.{Seed}
-use Rattle.ci_machine.specs.declared.reply.Code.{Code}
-use Rattle.ci_machine.specs.declared.reply.FaultCode.TheVariants.{K}
-use Rattle.ci_machine.specs.declared.reply.Detail.{Detail}
-use Rattle.ci_machine.specs.declared.reply.Detail.TheVariants as detail
-use Rattle.ci_machine.specs.declared.reply.Answer.{Answer}
-use Rattle.ci_machine.specs.declared.reply.Answer.TheVariants as answer
-use Rattle.ci_machine.specs.declared.reply.Swept.{Swept}
-use Rattle.ci_machine.specs.State.{State, applied}
-use Rattle.ci_machine.specs.Leases.{is_live, first_due}
-use Rattle.ci_machine_steps.specs.Plans.{Plan, faulted}
-use Rattle.ci_machine_steps.specs.Pipelines.{have_names, file_or_none, may_create, Layout, creation, lacks_numbers, MakesUnless, Makes, Creates}
-use Rattle.ci_machine_steps.specs.Sweeps.{sweep}
-use Rattle.ci_machine_steps.specs.Cancels.{cancellable_jobs, cancel}
-use Rattle.ci_machine_steps.specs.Step.{Does, Happens, leases, redundant_in, cancellable_in}
-use Rattle.ci_machine_steps.specs.History.{Past, Leads}
+use Rattle.ci_machine_steps.specs.Prelude.{is_name, MAX_NUMBER, Lease, BoardRow, Project, Pipeline, Job, Attempt, RowChange, Put, Record, NewPipeline, Request, AddProject}
+use Rattle.ci_machine_steps.specs.Prelude.{AddRunner, PauseRunner, SetFile, SetVariable, DeleteVariable, SetMode, ShowMode, CreatePipeline, ShowPipeline, AskJob, UpdateJob}
+use Rattle.ci_machine_steps.specs.Prelude.{AppendTrace, ShowJob, ShowTrace, Read, Play, CancelJob, CancelPipeline, RetryJob, PruneOne, Event, Seed, Code, K, Detail, Answer, Swept}
+use Rattle.ci_machine_steps.specs.Prelude.{State, applied, is_live, first_due, Plan, faulted, have_names, file_or_none, may_create, Layout, creation, lacks_numbers, MakesUnless}
+use Rattle.ci_machine_steps.specs.Prelude.{Makes, Creates, sweep, cancellable_jobs, cancel, Does, Happens, leases, redundant_in, cancellable_in, Past, Leads}
+use Rattle.ci_graph_layout.specs.Prelude.{MAX_VARIABLES, Given}
 use Rattle.ci_machine.proofs.Keyed.{Rising}
 use Rattle.ci_machine_steps.proofs.Created.{after_creation, new_length}
 use Rattle.ci_machine_steps.proofs.Pruned.{pruned_state}
@@ -61,9 +32,9 @@ no_file (Some text) = tt
 refuses : (r : Result Project Code) (new : NewPipeline) → IsQuiet (may_create r new)
 refuses (Err code) new = refl
 refuses (Ok project) new =
-    cond_both (not (is_name new.git_ref)) (Err (faulted (detail.Code (K 16)))) _ IsQuiet (λ _. refl) (λ _.
-    cond_both (nat_lt MAX_VARIABLES (length new.variables)) (Err (faulted (detail.Code (K 11)))) _ IsQuiet (λ _. refl) (λ _.
-    cond_both (not (have_names new.variables)) (Err (faulted (detail.Code (K 12)))) (file_or_none project.file) IsQuiet (λ _. refl) (λ _. no_file project.file)))
+    cond_both (not (is_name new.git_ref)) (Err (faulted (Detail.Code (K 16)))) _ IsQuiet (λ _. refl) (λ _.
+    cond_both (nat_lt MAX_VARIABLES (length new.variables)) (Err (faulted (Detail.Code (K 11)))) _ IsQuiet (λ _. refl) (λ _.
+    cond_both (not (have_names new.variables)) (Err (faulted (Detail.Code (K 12)))) (file_or_none project.file) IsQuiet (λ _. refl) (λ _. no_file project.file)))
 
 or_right : (a b : Bool) → (a || b) ≡ false → b ≡ false
 or_right true b e = absurd (false≢true (sym e))
@@ -121,7 +92,7 @@ each s board request jobs_rise rise = record {
   turned_away = λ fault _. refl;
   heard = λ a seen has _. refl;
   ended = λ a state has.
-      cond_both (is_live a) (Put (row.Attempt (record a { state = state })) ∷ []) [] (λ cs. (IsCreation request → ⊥) → (applied cs s).next.job ≡ s.next.job) (λ _ _. refl) (λ _ _. refl);
+      cond_both (is_live a) (Put (Record.Attempt (record a { state = state })) ∷ []) [] (λ cs. (IsCreation request → ⊥) → (applied cs s).next.job ≡ s.next.job) (λ _ _. refl) (λ _ _. refl);
   misplaced = λ fault _. refl;
   grown = λ a bytes now size has _. refl;
   pipeline_shown = λ p claims jobs facts rows _. refl;
@@ -175,12 +146,12 @@ swept s board within None (Some p) =
 swept s board within (Some l) redundant = within
 
 goes_on : (s : State) (board : List BoardRow) (e : Event) (now : ℕ) (seed : Seed) (a : Answer) (changes : List RowChange) → Rises s → IsWithinLimit s → Happens s board e now seed a changes → IsWithinLimit (applied changes s)
-goes_on s board (event.Request request) now seed (answer.Reply reply) changes rises within is = by_request s board request now seed (reply, changes) rises within is
-goes_on s board event.Sweep now seed (answer.Swept ended) changes rises within is =
+goes_on s board (Event.Request request) now seed (Answer.Reply reply) changes rises within is = by_request s board request now seed (reply, changes) rises within is
+goes_on s board Event.Sweep now seed (Answer.Swept ended) changes rises within is =
     let P : Swept × List RowChange → Type 0 = λ f. IsWithinLimit (applied f.1 s) in
     subst P (sym is) (swept s board within (first_due (leases s) now) (redundant_in s board))
-goes_on s board (event.Request request) now seed (answer.Swept ended) changes rises within is = absurd is
-goes_on s board event.Sweep now seed (answer.Reply reply) changes rises within is = absurd is
+goes_on s board (Event.Request request) now seed (Answer.Swept ended) changes rises within is = absurd is
+goes_on s board Event.Sweep now seed (Answer.Reply reply) changes rises within is = absurd is
 
 pub within_limit : (h : List Past) (s : State) → Leads h s → IsWithinLimit s
 within_limit [] s l = subst IsWithinLimit (sym l) (omega arith)

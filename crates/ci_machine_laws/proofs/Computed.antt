@@ -1,19 +1,12 @@
 -- Boards that are computed: of a state with some pipelines, whose rows are given.
-use Rattle.std.specs.Prelude.{◌≡◌, ◌⊎◌, ℕ, ◌+◌, ◌<◌, ◌≤◌, false, ◌==◌, nat_lt, List, [], ◌∷◌, length, map}
+use Rattle.std.proofs.Common.{◌≡◌, ◌⊎◌, ℕ, ◌+◌, ◌<◌, ◌≤◌, false, ◌==◌, nat_lt, List, [], ◌∷◌, length, map, sym, ap, subst, ◌∙◌, inl, inr, ⊎_elim, arith, ltb-true, eqb-true}
 use Rattle.std.specs.List.{AllByRecursion}
-use Rattle.std.proofs.Common.{sym, ap, subst, ◌∙◌, inl, inr, ⊎_elim, arith, ltb-true, eqb-true}
 use Rattle.std.proofs.lemmas.Bool.{cond_both, cases_Bool, ltb-false}
-use Rattle.ci_graph.specs.JobGraph.{JobGraph, part_at}
-use Rattle.ci_board.specs.declared.facts.Facts.{Facts}
-use Rattle.ci_board.specs.declared.facts.Row.{Row}
-use Rattle.ci_board.specs.Pass.{status_of_row}
-use Rattle.ci_board.specs.Rows.{AreRows, row_at, facts_at}
+use Rattle.ci_machine.specs.Prelude.{JobGraph, part_at}
+use Rattle.ci_machine_steps.specs.Prelude.{Facts, Row, status_of_row, AreRows, facts_at, Job, BoardRow, State, jobs_of, graph_by, facts_in, row_for, AreBoard}
+use Rattle.ci_board.specs.Prelude.{row_at}
 use Rattle.ci_board.proofs.Counted.{HasCounts}
 use Rattle.ci_board.proofs.Assignments.{assignment_of}
-use Rattle.ci_machine.specs.declared.records.Job.{Job}
-use Rattle.ci_machine.specs.declared.records.BoardRow.{BoardRow}
-use Rattle.ci_machine.specs.State.{State}
-use Rattle.ci_machine.specs.Statuses.{jobs_of, graph_by, facts_in, row_for, AreBoard}
 use Rattle.ci_machine.proofs.Keyed.{Has, filter_none}
 use Rattle.ci_machine.proofs.Filters.{filter_all}
 

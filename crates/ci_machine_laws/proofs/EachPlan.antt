@@ -2,97 +2,28 @@
 use Rattle.std.proofs.Common.{◌≡◌, ℕ, ◌==◌, Bool, List, [], length, not, nat_lt, true, false, Option, None, Some, option_map, Result, Ok, Err, ◌∷◌, refl, sym, ap, subst, ◌∙◌, ⊎_elim, eqb-true}
 use Rattle.std.specs.Str.{bytes_eq}
 use Rattle.std.proofs.lemmas.Bool.{cond_both, and_parts, false≢true}
-use Rattle.ci_board.specs.declared.facts.Status.{Status}
-use Rattle.ci_machine.specs.declared.records.BoardRow.{BoardRow}
-use Rattle.ci_machine.specs.declared.records.Project.{Project}
-use Rattle.ci_machine.specs.declared.records.Pipeline.{Pipeline}
-use Rattle.ci_machine.specs.declared.records.Job.{Job}
-use Rattle.ci_machine.specs.declared.records.Attempt.{Attempt}
-use Rattle.ci_values.specs.declared.attempts.AttemptState.{AttemptState}
-use Rattle.ci_machine.specs.declared.lease.Lease.{Lease}
-use Rattle.ci_machine.specs.declared.lease.LeaseFault.{LeaseFault}
-use Rattle.ci_machine.specs.declared.lease.LeaseFault.TheVariants.{NotLive, LeaseOver}
-use Rattle.ci_machine.specs.declared.lease.PieceFault.{PieceFault}
-use Rattle.ci_machine.specs.declared.lease.PieceFault.TheVariants.{Unleased, WrongOffset, TraceFull}
-use Rattle.ci_machine.specs.declared.records.Runner.{Runner}
-use Rattle.ci_machine.specs.declared.records.QueuedJob.{QueuedJob}
-use Rattle.ci_machine.specs.declared.records.JobVariable.{JobVariable}
-use Rattle.ci_config.specs.Config.{Config}
-use Rattle.ci_config.specs.declared.limits.TheConstants.{MAX_VARIABLES, MAX_TAGS}
-use Rattle.ci_values.specs.VariableName.{is_variable_name}
-use Rattle.ci_graph_layout.specs.Inclusion.{Given}
-use Rattle.ci_board.specs.declared.facts.Facts.{Facts}
-use Rattle.ci_board.specs.declared.facts.Row.{Row}
-use Rattle.ci_machine.specs.declared.records.Variable.{Variable}
-use Rattle.ci_machine.specs.declared.records.Claim.{Claim}
-use Rattle.ci_machine.specs.declared.records.GroupMode.{GroupMode}
-use Rattle.ci_machine.specs.declared.records.GroupOrder.{GroupOrder}
-use Rattle.ci_machine.specs.declared.request.NewRunner.{NewRunner}
-use Rattle.ci_machine.specs.declared.request.NewFile.{NewFile}
-use Rattle.ci_machine.specs.declared.request.NewVariable.{NewVariable}
-use Rattle.ci_machine.specs.declared.request.VariableQuery.{VariableQuery}
-use Rattle.ci_machine.specs.declared.request.NewMode.{NewMode}
-use Rattle.ci_machine.specs.declared.request.GroupQuery.{GroupQuery}
-use Rattle.ci_machine.specs.declared.request.NewPipeline.{NewPipeline}
-use Rattle.ci_machine.specs.declared.request.PipelineQuery.{PipelineQuery}
-use Rattle.ci_machine.specs.declared.request.Event.{Event}
-use Rattle.ci_machine.specs.declared.request.Event.TheVariants as event
-use Rattle.ci_machine.specs.declared.request.Request.{Request}
-use Rattle.ci_machine.specs.declared.request.Request.TheVariants.{AddProject, AddRunner, PauseRunner, SetFile, SetVariable, DeleteVariable, SetMode, ShowMode, CreatePipeline, ShowPipeline, AskJob, UpdateJob, AppendTrace, ShowJob, ShowTrace, Read, Play, CancelJob, CancelPipeline, RetryJob, PruneOne}
-use Rattle.ci_machine.specs.declared.request.Report.{Report}
-use Rattle.ci_machine.specs.declared.request.Report.TheVariants as report
-use Rattle.ci_machine.specs.declared.request.JobUpdate.{JobUpdate}
-use Rattle.ci_machine.specs.declared.request.TracePart.{TracePart}
-use Rattle.ci_machine.specs.declared.request.JobQuery.{JobQuery}
-use Rattle.ci_machine.specs.declared.request.Subject.{Subject}
-use Rattle.ci_machine.specs.declared.request.Subject.TheVariants as subject
-use Rattle.ci_machine.specs.declared.request.ReadQuery.{ReadQuery}
-use Rattle.ci_machine.specs.declared.request.Seed.{Seed}
-use Rattle.ci_machine.specs.declared.reply.Code.{Code}
-use Rattle.ci_machine.specs.declared.reply.Code.TheVariants.{M1, M2, M3, M4, M5, M6, M7, M8, M9, M10, M11, M12, M13, M14, M15, M16, M17, H1, H2, H3, H4, H5, H6, H7, H8}
-use Rattle.ci_machine.specs.declared.reply.Detail.{Detail}
-use Rattle.ci_machine.specs.declared.reply.Detail.TheVariants as detail
-use Rattle.ci_machine.specs.declared.reply.FaultCode.TheVariants.{K}
-use Rattle.ci_machine.specs.declared.reply.Body.{Body}
-use Rattle.ci_machine.specs.declared.reply.Body.TheVariants.{Json}
-use Rattle.ci_machine.specs.declared.reply.Answer.{Answer}
-use Rattle.ci_machine.specs.declared.reply.Answer.TheVariants as answer
-use Rattle.ci_machine.specs.declared.reply.Swept.{Swept}
-use Rattle.ci_machine.specs.declared.change.RowChange.{RowChange}
-use Rattle.ci_machine.specs.declared.change.RowChange.TheVariants.{Put, Remove}
-use Rattle.ci_machine.specs.declared.change.Record.TheVariants as row
-use Rattle.ci_machine.specs.declared.change.Key.TheVariants as key
-use Rattle.ci_values.specs.Names.{is_name}
-use Rattle.ci_machine.specs.State.{State, applied}
-use Rattle.ci_machine.specs.Statuses.{jobs_of, attempts_of, facts_of, rows_of, status_for}
-use Rattle.ci_values.specs.declared.limits.TheConstants.{MAX_NUMBER}
+use Rattle.ci_machine_steps.specs.Prelude.{Status, BoardRow, Project, Pipeline, Job, Attempt, AttemptState, Lease, LeaseFault, NotLive, LeaseOver, PieceFault, Unleased}
+use Rattle.ci_machine_steps.specs.Prelude.{WrongOffset, TraceFull, Runner, QueuedJob, JobVariable, is_variable_name, Facts, Row, Variable, Claim, GroupMode, GroupOrder, NewRunner}
+use Rattle.ci_machine_steps.specs.Prelude.{NewFile, NewVariable, VariableQuery, NewMode, GroupQuery, NewPipeline, PipelineQuery, Event, Request, AddProject, AddRunner, PauseRunner}
+use Rattle.ci_machine_steps.specs.Prelude.{SetFile, SetVariable, DeleteVariable, SetMode, ShowMode, CreatePipeline, ShowPipeline, AskJob, UpdateJob, AppendTrace, ShowJob}
+use Rattle.ci_machine_steps.specs.Prelude.{ShowTrace, Read, Play, CancelJob, CancelPipeline, RetryJob, PruneOne, Report, JobUpdate, TracePart, JobQuery, Subject, ReadQuery, Seed}
+use Rattle.ci_machine_steps.specs.Prelude.{Code, M1, M2, M3, M4, M5, M6, M7, M8, M9, M10, M11, M12, M13, M14, M15, M16, M17, H1, H2, H3, H4, H5, H6, H7, H8, Detail, K, Body, Json}
+use Rattle.ci_machine_steps.specs.Prelude.{Answer, Swept, RowChange, Put, Remove, Record, Key, is_name, State, applied, jobs_of, attempts_of, facts_of, rows_of, status_for}
+use Rattle.ci_machine_steps.specs.Prelude.{MAX_NUMBER, printed_status, job_data, pipeline_data, Plan, refused, faulted, fine, asked_project, made_project, add_project, made_runner}
+use Rattle.ci_machine_steps.specs.Prelude.{are_names, lacks_project, add_runner, runner_paused, pause_runner, file_set, set_file, SetsFile, count_with, variable_set, set_variable}
+use Rattle.ci_machine_steps.specs.Prelude.{variable_gone, delete_variable, mode_told, mode_change, set_mode, show_mode, have_names, file_or_none, may_create, given_by, Layout}
+use Rattle.ci_machine_steps.specs.Prelude.{IsLaidOut, lacks_numbers, creation, creation_changes, pipeline_created, MakesUnless, Makes, Creates, nothing_to_run, granted, ask_job}
+use Rattle.ci_machine_steps.specs.Prelude.{unleased, heard, ended, reported, update_job, not_accepted, grown, appended, append_trace, asked_pipeline, pipeline_within}
+use Rattle.ci_machine_steps.specs.Prelude.{pipeline_shown, show_pipeline, job_shown, trace_shown, job_within, asked_job, shown, traced, jobs_read, attempts_read, attempt_within}
+use Rattle.ci_machine_steps.specs.Prelude.{attempt_of, trace_read, read_of, read, permitted, ActsOn, is_playable, play, is_retryable, retry, is_cancellable, cancellable_jobs}
+use Rattle.ci_machine_steps.specs.Prelude.{cancel, CancelsSome, CancelsPipeline, sweep, prunable_in, pruned_reply, pipeline_goes, prune, accepted, first_due, may_run}
+use Rattle.ci_machine_steps.specs.Prelude.{resource_free, is_eligible, chosen, order_of, groups_in, claims_in, Does, Happens, Step, project_with, project_named, runner_at}
+use Rattle.ci_machine_steps.specs.Prelude.{redundant_in, cancellable_in, project_variables, variable_at, pipeline_at, runner_with, attempt_at, pipeline_of, job_at}
+use Rattle.ci_machine_steps.specs.Prelude.{pipeline_or_none, found_job, found_pipeline, last_attempt, trace_of, trace_if_any, lease_of, leases, is_pending, pending_jobs, queued}
+use Rattle.ci_machine_steps.specs.Prelude.{queue, offer, offered_variables, jobs_in, IsRefusal, Stepped, outcome_of}
+use Rattle.ci_graph_layout.specs.Prelude.{Config, MAX_VARIABLES, MAX_TAGS, Given}
 use Rattle.serde_json.specs.Written.{compact_text}
-use Rattle.ci_machine.specs.Bodies.{printed_status, job_data, pipeline_data}
-use Rattle.ci_machine_steps.specs.Plans.{Plan, refused, faulted, fine, asked_project}
-use Rattle.ci_machine_steps.specs.Projects.{made_project, add_project}
-use Rattle.ci_machine_steps.specs.Runners.{made_runner, are_names, lacks_project, add_runner, runner_paused, pause_runner}
-use Rattle.ci_machine_steps.specs.Files.{file_set, set_file, SetsFile}
-use Rattle.ci_machine_steps.specs.Variables.{count_with, variable_set, set_variable, variable_gone, delete_variable}
-use Rattle.ci_machine_steps.specs.Modes.{mode_told, mode_change, set_mode, show_mode}
-use Rattle.ci_machine_steps.specs.Pipelines.{have_names, file_or_none, may_create, given_by, Layout, IsLaidOut, lacks_numbers, creation, creation_changes, pipeline_created, MakesUnless, Makes, Creates}
-use Rattle.ci_machine_steps.specs.Grants.{nothing_to_run, granted, ask_job}
-use Rattle.ci_machine_steps.specs.Reports.{unleased, heard, ended, reported, update_job}
-use Rattle.ci_machine_steps.specs.Traces.{not_accepted, grown, appended, append_trace}
-use Rattle.ci_machine_steps.specs.Shows.{asked_pipeline, pipeline_within, pipeline_shown, show_pipeline, job_shown, trace_shown, job_within, asked_job, shown, traced}
-use Rattle.ci_machine_steps.specs.Reads.{jobs_read, attempts_read, attempt_within, attempt_of, trace_read, read_of, told, read}
-use Rattle.ci_machine_steps.specs.Acts.{permitted, ActsOn}
-use Rattle.ci_machine_steps.specs.Plays.{is_playable, play}
-use Rattle.ci_machine_steps.specs.Retries.{is_retryable, retry}
-use Rattle.ci_machine_steps.specs.Cancels.{is_cancellable, cancellable_jobs, cancel, CancelsSome, CancelsPipeline}
-use Rattle.ci_machine_steps.specs.Sweeps.{sweep}
-use Rattle.ci_machine_steps.specs.Prunes.{prunable_in, pruned_reply, pipeline_goes, prune}
-use Rattle.ci_machine.specs.Leases.{accepted, first_due}
-use Rattle.ci_machine.specs.Eligible.{may_run, resource_free, is_eligible, chosen}
-use Rattle.ci_machine.specs.Groups.{order_of}
-use Rattle.ci_machine.specs.Waiting.{groups_in, claims_in}
-use Rattle.ci_machine_steps.specs.Step.{Does, Happens, Step, project_with, project_named, runner_at, redundant_in, cancellable_in, project_variables, variable_at, pipeline_at, runner_with, attempt_at, pipeline_of, job_at, pipeline_or_none, found_job, found_pipeline, last_attempt, trace_of, trace_if_any, lease_of, leases, is_pending, pending_jobs, queued, queue, offer, offered_variables, jobs_in}
-use Rattle.ci_machine_steps.specs.Laws.{IsRefusal}
-use Rattle.ci_machine.specs.Reply.{Stepped, outcome_of}
+use Rattle.ci_machine_steps.specs.Reads.{told}
 use Rattle.ci_machine.proofs.Keyed.{Has, has_filter, has_find, find-map}
 use Rattle.ci_machine_laws.proofs.Acts.{IsAct, plays, retries, cancels, cancellable_within}
 
@@ -157,8 +88,8 @@ module _ (s : State) (P : Plan → Type 0) (of_code : (c : Code) → IsMachineCo
   puts : (named : ℕ) (vs : List Variable) (new : NewVariable) → ((project : Project) → P (variable_set project new)) → (r : Result Project Code) → Asked s named r → P (set_variable r vs new)
   puts named vs new h (Err code) asked = of_code code asked
   puts named vs new h (Ok project) asked =
-      cond_both (nat_lt MAX_VARIABLES (count_with new.key vs)) (faulted (detail.Code (K 11))) _ P (λ _. of_fault (detail.Code (K 11))) (λ _.
-      cond_both (not (is_variable_name new.key)) (faulted (detail.Code (K 12))) (variable_set project new) P (λ _. of_fault (detail.Code (K 12))) (λ _. h project))
+      cond_both (nat_lt MAX_VARIABLES (count_with new.key vs)) (faulted (Detail.Code (K 11))) _ P (λ _. of_fault (Detail.Code (K 11))) (λ _.
+      cond_both (not (is_variable_name new.key)) (faulted (Detail.Code (K 12))) (variable_set project new) P (λ _. of_fault (Detail.Code (K 12))) (λ _. h project))
 
   -- a variable is to have a value
   pub of_variable : (new : NewVariable) → ((project : Project) → P (variable_set project new)) → P (set_variable (of_asked s new.token new.project) (project_variables s new.project) new)
@@ -175,18 +106,18 @@ module _ (s : State) (P : Plan → Type 0) (of_code : (c : Code) → IsMachineCo
 
   -- ---- the process mode of a resource group
 
-  orders : (project : ℕ) (group : List ℕ) → ((m : GroupMode) → P (mode_told m.group (Some m.order), Put (row.Mode m) ∷ [])) → ((n : ℕ) (name : List ℕ) → P (mode_told name None, Remove (key.Mode n name) ∷ []))
+  orders : (project : ℕ) (group : List ℕ) → ((m : GroupMode) → P (mode_told m.group (Some m.order), Put (Record.Mode m) ∷ [])) → ((n : ℕ) (name : List ℕ) → P (mode_told name None, Remove (Key.Mode n name) ∷ []))
       → (order : Option GroupOrder) → P (mode_told group order, mode_change project group order ∷ [])
   orders project group h gone None = gone project group
   orders project group h gone (Some order) = h (record { project = project; group = group; order = order })
 
-  sets_mode : (named : ℕ) (new : NewMode) → ((m : GroupMode) → P (mode_told m.group (Some m.order), Put (row.Mode m) ∷ [])) → ((n : ℕ) (name : List ℕ) → P (mode_told name None, Remove (key.Mode n name) ∷ []))
+  sets_mode : (named : ℕ) (new : NewMode) → ((m : GroupMode) → P (mode_told m.group (Some m.order), Put (Record.Mode m) ∷ [])) → ((n : ℕ) (name : List ℕ) → P (mode_told name None, Remove (Key.Mode n name) ∷ []))
       → (r : Result Project Code) → Asked s named r → P (set_mode r new)
   sets_mode named new h gone (Err code) asked = of_code code asked
   sets_mode named new h gone (Ok project) asked = orders project.id new.group h gone new.order
 
   -- a resource group is to have a process mode
-  pub of_mode : (new : NewMode) → ((m : GroupMode) → P (mode_told m.group (Some m.order), Put (row.Mode m) ∷ [])) → ((n : ℕ) (name : List ℕ) → P (mode_told name None, Remove (key.Mode n name) ∷ []))
+  pub of_mode : (new : NewMode) → ((m : GroupMode) → P (mode_told m.group (Some m.order), Put (Record.Mode m) ∷ [])) → ((n : ℕ) (name : List ℕ) → P (mode_told name None, Remove (Key.Mode n name) ∷ []))
       → P (set_mode (of_asked s new.token new.project) new)
   of_mode new h gone = sets_mode new.project new h gone (of_asked s new.token new.project) (is_asked s new.token new.project)
 
@@ -223,9 +154,9 @@ module _ (s : State) (P : Plan → Type 0) (of_code : (c : Code) → IsMachineCo
   creates new now plan h (Err code) is asked made = subst P (sym made) (of_code code asked)
   creates new now plan h (Ok project) is asked made =
       let C : Result (List ℕ) Plan → Type 0 = λ t. Creates s new (given_in s new) now t plan → P plan in
-      cond_both (not (is_name new.git_ref)) (Err (faulted (detail.Code (K 16)))) _ C (λ _ k. subst P (sym k) (of_fault (detail.Code (K 16)))) (λ _.
-      cond_both (nat_lt MAX_VARIABLES (length new.variables)) (Err (faulted (detail.Code (K 11)))) _ C (λ _ k. subst P (sym k) (of_fault (detail.Code (K 11)))) (λ _.
-      cond_both (not (have_names new.variables)) (Err (faulted (detail.Code (K 12)))) (file_or_none project.file) C (λ _ k. subst P (sym k) (of_fault (detail.Code (K 12))))
+      cond_both (not (is_name new.git_ref)) (Err (faulted (Detail.Code (K 16)))) _ C (λ _ k. subst P (sym k) (of_fault (Detail.Code (K 16)))) (λ _.
+      cond_both (nat_lt MAX_VARIABLES (length new.variables)) (Err (faulted (Detail.Code (K 11)))) _ C (λ _ k. subst P (sym k) (of_fault (Detail.Code (K 11)))) (λ _.
+      cond_both (not (have_names new.variables)) (Err (faulted (Detail.Code (K 12)))) (file_or_none project.file) C (λ _ k. subst P (sym k) (of_fault (Detail.Code (K 12))))
       (λ _. reads new now plan h project is asked project.file refl))) made
 
   pub of_creation : (new : NewPipeline) (now : ℕ) (plan : Plan) → OfCreation s P new now
@@ -354,12 +285,12 @@ job_in s n project = found_within s (job_at s n) (λ j e. (has_find (λ (w : Job
 
 is_told : (s : State) (board : List BoardRow) (named : ℕ) (r : Result Project Code) → Asked s named r → (what : Subject) → IsTold (read_of s board r what)
 is_told s board named (Err code) asked what = asked
-is_told s board named (Ok p) asked subject.Project = tt
-is_told s board named (Ok p) asked subject.Pipelines = tt
-is_told s board named (Ok p) asked (subject.Jobs n) = jobs_told s board p.id (pipeline_within (pipeline_at s n) p.id) (pipeline_in (pipeline_at s n) p.id)
-is_told s board named (Ok p) asked (subject.Attempts n) = attempts_told s (job_within (job_at s n) (pipeline_of s (job_at s n)) p.id) (job_in s n p.id)
-is_told s board named (Ok p) asked (subject.Trace n attempt) = trace_told s attempt (job_within (job_at s n) (pipeline_of s (job_at s n)) p.id) (job_in s n p.id)
-is_told s board named (Ok p) asked subject.ResourceGroups = tt
+is_told s board named (Ok p) asked Subject.Project = tt
+is_told s board named (Ok p) asked Subject.Pipelines = tt
+is_told s board named (Ok p) asked (Subject.Jobs n) = jobs_told s board p.id (pipeline_within (pipeline_at s n) p.id) (pipeline_in (pipeline_at s n) p.id)
+is_told s board named (Ok p) asked (Subject.Attempts n) = attempts_told s (job_within (job_at s n) (pipeline_of s (job_at s n)) p.id) (job_in s n p.id)
+is_told s board named (Ok p) asked (Subject.Trace n attempt) = trace_told s attempt (job_within (job_at s n) (pipeline_of s (job_at s n)) p.id) (job_in s n p.id)
+is_told s board named (Ok p) asked Subject.ResourceGroups = tt
 
 module _ (P : Plan → Type 0) (of_code : (c : Code) → IsMachineCode c → P (refused c)) (h : (body : Body) → P (fine body, [])) where
   tells : (r : Result Body Code) → IsTold r → P (told r)
@@ -384,8 +315,8 @@ pub record Each (s : State) (board : List BoardRow) (request : Request) (P : Pla
   pub file : (project : Project) (text : List ℕ) (c : Config) → Has project s.projects → P (file_set project text c)
   pub variable : (project : Project) (new : NewVariable) → P (variable_set project new)
   pub gone : (v : Variable) → P (variable_gone v)
-  pub mode : (new : NewMode) → request ≡ SetMode new → (m : GroupMode) → P (mode_told m.group (Some m.order), Put (row.Mode m) ∷ [])
-  pub unordered : (new : NewMode) → request ≡ SetMode new → (project : ℕ) (group : List ℕ) → P (mode_told group None, Remove (key.Mode project group) ∷ [])
+  pub mode : (new : NewMode) → request ≡ SetMode new → (m : GroupMode) → P (mode_told m.group (Some m.order), Put (Record.Mode m) ∷ [])
+  pub unordered : (new : NewMode) → request ≡ SetMode new → (project : ℕ) (group : List ℕ) → P (mode_told group None, Remove (Key.Mode project group) ∷ [])
   pub mode_shown : (group : List ℕ) (order : Option GroupOrder) → P (mode_told group order, [])
   pub pipeline : (new : NewPipeline) (now : ℕ) → request ≡ CreatePipeline new → OfCreation s P new now
   -- there is nothing to run, or nothing to prune
@@ -407,13 +338,13 @@ pub record Each (s : State) (board : List BoardRow) (request : Request) (P : Pla
 module _ (s : State) (board : List BoardRow) (request : Request) (P : Plan → Type 0) (each : Each s board request P) where
   projects : (name : List ℕ) (seed : Seed) → P (add_project s.next.project name seed)
   projects name seed =
-      cond_both (not (is_name name)) (faulted (detail.Code (K 16))) _ P (λ _. each.faulted (detail.Code (K 16))) (λ _.
+      cond_both (not (is_name name)) (faulted (Detail.Code (K 16))) _ P (λ _. each.faulted (Detail.Code (K 16))) (λ _.
       cond_both (nat_lt MAX_NUMBER s.next.project) (refused M15) (made_project s.next.project name seed) P (λ _. each.refused M15 tt) (λ _. each.project name seed))
 
   runners : (project : Option Project) (new : NewRunner) (seed : Seed) → P (add_runner s.next.runner project new seed)
   runners project new seed =
-      cond_both (nat_lt MAX_TAGS (length new.tags)) (faulted (detail.Code (K 11))) _ P (λ _. each.faulted (detail.Code (K 11))) (λ _.
-      cond_both (not (are_names new)) (faulted (detail.Code (K 16))) _ P (λ _. each.faulted (detail.Code (K 16))) (λ _.
+      cond_both (nat_lt MAX_TAGS (length new.tags)) (faulted (Detail.Code (K 11))) _ P (λ _. each.faulted (Detail.Code (K 11))) (λ _.
+      cond_both (not (are_names new)) (faulted (Detail.Code (K 16))) _ P (λ _. each.faulted (Detail.Code (K 16))) (λ _.
       cond_both (lacks_project new.project project) (refused M2) _ P (λ _. each.refused M2 tt) (λ _.
       cond_both (nat_lt MAX_NUMBER s.next.runner) (refused M15) (made_runner s.next.runner new seed) P (λ _. each.refused M15 tt) (λ _. each.runner new seed))))
 
@@ -447,9 +378,9 @@ module _ (s : State) (board : List BoardRow) (request : Request) (P : Plan → T
   ends a has (Err fault) = each.turned_away fault
 
   reports : (l : Lease) → Has l.attempt s.attempts → (r : Report) (now : ℕ) → P (reported l r now)
-  reports l has report.Running now = hears l.attempt has _
-  reports l has (report.Success exit) now = ends l.attempt has _
-  reports l has (report.Failed cause exit) now = ends l.attempt has _
+  reports l has Report.Running now = hears l.attempt has _
+  reports l has (Report.Success exit) now = ends l.attempt has _
+  reports l has (Report.Failed cause exit) now = ends l.attempt has _
 
   updates : (update : JobUpdate) (now : ℕ) (a : Option Attempt) → attempt_at s update.attempt ≡ a → P (update_job (option_map (lease_of s) a) update now)
   updates update now None found = each.refused M5 tt
@@ -521,7 +452,7 @@ does s board P (PruneOne before) each now seed plan is = subst P (sym is) (prune
 
 -- where the plan is a refusal, it changes nothing
 abbrev Keeps : Plan → Type 0
-Keeps plan = IsRefusal (answer.Reply plan.0) → plan.1 ≡ []
+Keeps plan = IsRefusal (Answer.Reply plan.0) → plan.1 ≡ []
 
 keeps : (s : State) (board : List BoardRow) (request : Request) → Each s board request Keeps
 keeps s board request = record {
@@ -553,25 +484,25 @@ keeps s board request = record {
 }
 
 -- a sweep that ends and cancels nothing changes nothing, and it refuses nothing
-swept_keeps : (due : Option Lease) (redundant : Option Pipeline) (attempts : List Attempt) (jobs : List Job) → IsRefusal (answer.Swept (sweep due redundant attempts jobs).0) → (sweep due redundant attempts jobs).1 ≡ []
+swept_keeps : (due : Option Lease) (redundant : Option Pipeline) (attempts : List Attempt) (jobs : List Job) → IsRefusal (Answer.Swept (sweep due redundant attempts jobs).0) → (sweep due redundant attempts jobs).1 ≡ []
 swept_keeps (Some l) redundant attempts jobs refused = absurd refused
 swept_keeps None (Some p) attempts jobs refused = absurd refused
 swept_keeps None None attempts jobs refused = refl
 
 refused_keeps : (s : State) (board : List BoardRow) (e : Event) (now : ℕ) (seed : Seed) (a : Answer) (changes : List RowChange) → Happens s board e now seed a changes → IsRefusal a → changes ≡ []
-refused_keeps s board (event.Request request) now seed (answer.Reply reply) changes is refused = does s board Keeps request (keeps s board request) now seed (reply, changes) is refused
-refused_keeps s board event.Sweep now seed (answer.Swept swept) changes is refused =
-    let P : Swept × List RowChange → Type 0 = λ plan. IsRefusal (answer.Swept plan.0) → plan.1 ≡ [] in
+refused_keeps s board (Event.Request request) now seed (Answer.Reply reply) changes is refused = does s board Keeps request (keeps s board request) now seed (reply, changes) is refused
+refused_keeps s board Event.Sweep now seed (Answer.Swept swept) changes is refused =
+    let P : Swept × List RowChange → Type 0 = λ plan. IsRefusal (Answer.Swept plan.0) → plan.1 ≡ [] in
     subst P (sym is) (swept_keeps (first_due (leases s) now) (redundant_in s board) s.attempts (cancellable_in s board (redundant_in s board))) refused
-refused_keeps s board (event.Request request) now seed (answer.Swept swept) changes is refused = absurd is
-refused_keeps s board event.Sweep now seed (answer.Reply reply) changes is refused = absurd is
+refused_keeps s board (Event.Request request) now seed (Answer.Swept swept) changes is refused = absurd is
+refused_keeps s board Event.Sweep now seed (Answer.Reply reply) changes is refused = absurd is
 
 pub unchanged : (s t : State) (e : Event) (now : ℕ) (seed : Seed) (a : Answer) → Step s e now seed a t → IsRefusal a → t ≡ s
 unchanged s t e now seed a step refused = step.state ∙ ap (λ cs. applied cs s) (refused_keeps s step.before e now seed a step.changes step.happens refused)
 
 -- the machine answers neither M16 nor M17
 abbrev IsStep : Plan → Type 0
-IsStep plan = outcome_of (answer.Reply plan.0) ≡ Stepped
+IsStep plan = outcome_of (Answer.Reply plan.0) ≡ Stepped
 
 steps : (s : State) (board : List BoardRow) (request : Request) → Each s board request IsStep
 steps s board request = record {
@@ -637,16 +568,16 @@ steps s board request = record {
   stepped H7 m = absurd m
   stepped H8 m = absurd m
 
-swept_steps : (due : Option Lease) (redundant : Option Pipeline) (attempts : List Attempt) (jobs : List Job) → outcome_of (answer.Swept (sweep due redundant attempts jobs).0) ≡ Stepped
+swept_steps : (due : Option Lease) (redundant : Option Pipeline) (attempts : List Attempt) (jobs : List Job) → outcome_of (Answer.Swept (sweep due redundant attempts jobs).0) ≡ Stepped
 swept_steps (Some l) redundant attempts jobs = refl
 swept_steps None (Some p) attempts jobs = refl
 swept_steps None None attempts jobs = refl
 
 all_step : (s : State) (board : List BoardRow) (e : Event) (now : ℕ) (seed : Seed) (a : Answer) (changes : List RowChange) → Happens s board e now seed a changes → outcome_of a ≡ Stepped
-all_step s board (event.Request request) now seed (answer.Reply reply) changes is = does s board IsStep request (steps s board request) now seed (reply, changes) is
-all_step s board event.Sweep now seed (answer.Swept swept) changes is = ap (λ plan. outcome_of (answer.Swept plan.0)) is ∙ swept_steps (first_due (leases s) now) (redundant_in s board) s.attempts (cancellable_in s board (redundant_in s board))
-all_step s board (event.Request request) now seed (answer.Swept swept) changes is = absurd is
-all_step s board event.Sweep now seed (answer.Reply reply) changes is = absurd is
+all_step s board (Event.Request request) now seed (Answer.Reply reply) changes is = does s board IsStep request (steps s board request) now seed (reply, changes) is
+all_step s board Event.Sweep now seed (Answer.Swept swept) changes is = ap (λ plan. outcome_of (Answer.Swept plan.0)) is ∙ swept_steps (first_due (leases s) now) (redundant_in s board) s.attempts (cancellable_in s board (redundant_in s board))
+all_step s board (Event.Request request) now seed (Answer.Swept swept) changes is = absurd is
+all_step s board Event.Sweep now seed (Answer.Reply reply) changes is = absurd is
 
 pub answered : (s t : State) (e : Event) (now : ℕ) (seed : Seed) (a : Answer) → Step s e now seed a t → outcome_of a ≡ Stepped
 answered s t e now seed a step = all_step s step.before e now seed a step.changes step.happens

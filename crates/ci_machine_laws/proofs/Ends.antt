@@ -1,17 +1,9 @@
 -- What has ended stays as it ended or went with its pipeline, and then for good, in every state that a history leads to.
-use Rattle.std.specs.Prelude.{◌≡◌, ◌⊎◌, ℕ, ◌<◌, ◌≤◌, Bool, true, false, List, ◌∷◌, Result, Ok, Err}
-use Rattle.std.proofs.Common.{refl, sym, ap, subst, ◌∙◌, inl, inr, ⊎_elim, arith}
+use Rattle.std.proofs.Common.{◌≡◌, ◌⊎◌, ℕ, ◌<◌, ◌≤◌, Bool, true, false, List, ◌∷◌, Result, Ok, Err, refl, sym, ap, subst, ◌∙◌, inl, inr, ⊎_elim, arith}
 use Rattle.std.proofs.lemmas.Bool.{both_ways}
-use Rattle.ci_machine.specs.declared.records.Attempt.{Attempt}
-use Rattle.ci_values.specs.declared.attempts.AttemptState.{AttemptState}
-use Rattle.ci_values.specs.declared.attempts.AttemptState.TheVariants.{Live, Succeeded, Failed, Cancelled}
-use Rattle.ci_values.specs.Attempts.{is_live_state}
-use Rattle.ci_machine.specs.declared.lease.LeaseFault.{LeaseFault}
-use Rattle.ci_machine.specs.declared.lease.PieceFault.{PieceFault}
-use Rattle.ci_machine.specs.Leases.{is_live, while_leased, renewed, if_leased}
-use Rattle.ci_machine.specs.State.{State, attempt_cmp, put}
-use Rattle.ci_machine_steps.specs.History.{Past}
-use Rattle.ci_machine_steps.specs.Laws.{WentWithItsJob}
+use Rattle.ci_machine_steps.specs.Prelude.{Attempt, AttemptState, Live, Succeeded, Cancelled, is_live_state, LeaseFault, PieceFault, is_live, while_leased, renewed, if_leased}
+use Rattle.ci_machine_steps.specs.Prelude.{State, attempt_cmp, put, Past, WentWithItsJob}
+use Rattle.ci_machine.specs.Prelude.{Failed}
 use Rattle.ci_machine.proofs.Keyed.{Has, put_has, unequal}
 use Rattle.ci_machine_laws.proofs.Gone.{still_gone}
 use Rattle.ci_machine_laws.proofs.Traces.{Was, IsNew, same}

@@ -1,23 +1,8 @@
 -- A finished pipeline has no live attempt: once it is pruned, leases and resource groups stand as they did.
-use Rattle.std.specs.Prelude.{◌≡◌, ℕ, false, not, nat_lt, List, [], ◌∷◌, ◌++◌, map, flat_map, Option, Some}
-use Rattle.std.proofs.Common.{refl, ap, ◌∙◌, inl, inr}
+use Rattle.std.proofs.Common.{◌≡◌, ℕ, false, not, nat_lt, List, [], ◌∷◌, ◌++◌, map, flat_map, Option, Some, refl, ap, ◌∙◌, inl, inr}
 use Rattle.std.proofs.lemmas.Bool.{and_parts}
-use Rattle.ci_machine.specs.declared.lease.Lease.{Lease}
-use Rattle.ci_machine.specs.declared.records.Pipeline.{Pipeline}
-use Rattle.ci_machine.specs.declared.records.Job.{Job}
-use Rattle.ci_machine.specs.declared.records.Attempt.{Attempt}
-use Rattle.ci_machine.specs.declared.records.BoardRow.{BoardRow}
-use Rattle.ci_machine.specs.State.{State, applied}
-use Rattle.ci_machine.specs.Statuses.{jobs_of, AreBoard}
-use Rattle.ci_machine.specs.Leases.{is_live}
-use Rattle.ci_machine.specs.Indexes.{is_open_in}
-use Rattle.ci_machine.specs.Holders.{held_of, holders}
-use Rattle.ci_machine.specs.declared.request.Request.TheVariants.{PruneOne}
-use Rattle.ci_machine.specs.declared.request.Seed.{Seed}
-use Rattle.ci_machine_steps.specs.Plans.{Plan}
-use Rattle.ci_machine_steps.specs.Prunes.{is_job_among, is_prunable, prunable_in, prune, without_pipeline}
-use Rattle.ci_machine_steps.specs.Step.{Does, limit_or_none, lease_of, leases, live_attempts, jobs_in}
-use Rattle.ci_machine_steps.specs.Sound.{IsSound}
+use Rattle.ci_machine_steps.specs.Prelude.{Lease, Pipeline, Job, Attempt, BoardRow, State, applied, jobs_of, AreBoard, is_live, is_open_in, held_of, holders, PruneOne, Seed, Plan}
+use Rattle.ci_machine_steps.specs.Prelude.{is_job_among, is_prunable, prunable_in, prune, without_pipeline, Does, limit_or_none, lease_of, leases, live_attempts, jobs_in, IsSound}
 use Rattle.ci_machine.proofs.Keyed.{not_true, Has, has_filter, has_find}
 use Rattle.ci_machine.proofs.Filters.{filter_implied}
 use Rattle.ci_machine_steps.proofs.Pruned.{pruned_state, attempt_left}

@@ -1,20 +1,8 @@
 -- Which pipeline a step pruned, and what went with it.
-use Rattle.std.specs.Prelude.{◌≡◌, ℕ, true, ◌==◌, List, [], ◌∷◌, Contains}
-use Rattle.std.proofs.Common.{refl, sym, subst, inl, eqb-true}
+use Rattle.std.proofs.Common.{◌≡◌, ℕ, true, ◌==◌, List, [], ◌∷◌, Contains, refl, sym, subst, inl, eqb-true}
 use Rattle.std.proofs.lemmas.List.Elements.{Contains-append_right}
-use Rattle.ci_machine.specs.declared.records.Pipeline.{Pipeline}
-use Rattle.ci_machine.specs.declared.records.Job.{Job}
-use Rattle.ci_machine.specs.declared.records.Attempt.{Attempt}
-use Rattle.ci_machine.specs.declared.request.Request.TheVariants.{PruneOne}
-use Rattle.ci_machine.specs.declared.request.Event.{Event}
-use Rattle.ci_machine.specs.declared.request.Event.TheVariants as event
-use Rattle.ci_machine.specs.declared.reply.Answer.{Answer}
-use Rattle.ci_machine.specs.declared.reply.Answer.TheVariants as answer
-use Rattle.ci_machine.specs.State.{State}
-use Rattle.ci_machine.specs.Statuses.{jobs_of}
-use Rattle.ci_machine_steps.specs.Prunes.{is_job_among, pruned_reply, without_pipeline}
-use Rattle.ci_machine_steps.specs.History.{Past}
-use Rattle.ci_machine_steps.specs.Laws.{Prunes, WasPruned, WentWithItsJob}
+use Rattle.ci_machine_steps.specs.Prelude.{Pipeline, Job, Attempt, PruneOne, Event, Answer, State, jobs_of, is_job_among, pruned_reply, without_pipeline, Past, Prunes, WasPruned}
+use Rattle.ci_machine_steps.specs.Prelude.{WentWithItsJob}
 use Rattle.ci_machine.proofs.Keyed.{Has, has_filter, contains_from_has}
 use Rattle.ci_machine.proofs.Tests.{any_has}
 
@@ -23,8 +11,8 @@ pub record IsPruned (s : State) (e : Event) (a : Answer) (t : State) : Type 0 wh
   pub pipeline : Pipeline
   pub has : Has pipeline s.pipelines
   pub before : ℕ
-  pub asked : e ≡ event.Request (PruneOne before)
-  pub answered : a ≡ answer.Reply (pruned_reply pipeline.id)
+  pub asked : e ≡ Event.Request (PruneOne before)
+  pub answered : a ≡ Answer.Reply (pruned_reply pipeline.id)
   pub state : t ≡ without_pipeline s pipeline.id
 
 -- ---- in a history with one more line

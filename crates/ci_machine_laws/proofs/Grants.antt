@@ -1,18 +1,8 @@
 -- Attempts in every state that a history leads to: which are live, and how each was granted.
-use Rattle.std.specs.Prelude.{◌≡◌, ◌⊎◌, ℕ, ◌+◌, ◌<◌, ◌≤◌, true, false, ◌==◌, ◌&&◌, List, [], ◌∷◌, filter, Some, None}
-use Rattle.std.proofs.Common.{refl, sym, ap, subst, ◌∙◌, ⊎_elim, arith, eqb-true, eq-eqb}
+use Rattle.std.proofs.Common.{◌≡◌, ◌⊎◌, ℕ, ◌+◌, ◌<◌, ◌≤◌, true, false, ◌==◌, ◌&&◌, List, [], ◌∷◌, filter, Some, None, refl, sym, ap, subst, ◌∙◌, ⊎_elim, arith, eqb-true, eq-eqb}
 use Rattle.std.proofs.lemmas.Bool.{cond-true, cond-false, and_parts, ne_eqb}
-use Rattle.ci_machine.specs.declared.records.Runner.{Runner}
-use Rattle.ci_machine.specs.declared.records.Job.{Job}
-use Rattle.ci_machine.specs.declared.records.Attempt.{Attempt}
-use Rattle.ci_machine.specs.declared.request.Event.TheVariants as event
-use Rattle.ci_machine.specs.declared.request.Request.TheVariants.{AskJob}
-use Rattle.ci_machine.specs.State.{State, empty, attempt_cmp, put}
-use Rattle.ci_machine.specs.Statuses.{attempts_of}
-use Rattle.ci_machine.specs.Leases.{is_live}
-use Rattle.ci_machine_steps.specs.Step.{last_attempt}
-use Rattle.ci_machine_steps.specs.History.{Past}
-use Rattle.ci_machine_steps.specs.Laws.{grants, IsLeastEligible, OneLease}
+use Rattle.ci_machine_steps.specs.Prelude.{Runner, Job, Attempt, Event, AskJob, State, empty, attempt_cmp, put, attempts_of, is_live, last_attempt, Past, grants, IsLeastEligible}
+use Rattle.ci_machine_steps.specs.Prelude.{OneLease}
 use Rattle.ci_machine.proofs.Keyed.{Has, Rising, has_put, rising_put, rising_filter, has_filter, filter_has, last_greatest, count_one}
 
 -- just one line granted the attempt, to the least eligible job: as the law says, but for how the job came into its pipeline
@@ -24,7 +14,7 @@ pub record WasGiven (h : List Past) (a : Attempt) : Type 0 where
   pub its_runner : runner.id ≡ a.runner
   pub its_job : job.id ≡ a.job
   pub eligible : IsLeastEligible line.before runner job
-  pub asked : line.event ≡ event.Request (AskJob runner.token)
+  pub asked : line.event ≡ Event.Request (AskJob runner.token)
 
 -- what the attempts are, besides their traces
 pub record Grants (h : List Past) (s : State) : Type 0 where
@@ -163,7 +153,7 @@ pub gives : (h : List Past) (s t : State) (p : Past) (x : Attempt) → Grants h 
     → ((a : Attempt) → Has a s.attempts → is_live a ≡ true → a.job ≡ x.job → ⊥)
     → ((n : ℕ) → grants n p ≡ (x.id == n))
     → (runner : Runner) (job : Job) → runner.id ≡ x.runner → job.id ≡ x.job → IsLeastEligible p.before runner job
-    → p.event ≡ event.Request (AskJob runner.token) → t.attempts ≡ put attempt_cmp x s.attempts → t.next.attempt ≡ s.next.attempt + 1 → t.jobs ≡ s.jobs → Grants (p ∷ h) t
+    → p.event ≡ Event.Request (AskJob runner.token) → t.attempts ≡ put attempt_cmp x s.attempts → t.next.attempt ≡ s.next.attempt + 1 → t.jobs ≡ s.jobs → Grants (p ∷ h) t
 gives h s t p x i at_next free grant_of runner job its_runner its_job eligible asked e f r =
     let cases : (b : Attempt) → Has b t.attempts → (b ≡ x) ⊎ Has b s.attempts = λ b k. has_put attempt_cmp x b s.attempts (subst (Has b) e k) in
     record {

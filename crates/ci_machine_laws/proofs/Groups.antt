@@ -1,51 +1,17 @@
 -- Each resource group of a project is held by at most one live attempt, in every state that a history leads to.
-use Rattle.std.specs.Prelude.{◌≡◌, ◌⊎◌, ℕ, max, ◌==◌, ◌&&◌, ◌||◌, not, Bool, true, false, List, [], ◌∷◌, ◌++◌, map, flat_map, Option, Some, None, Ok, option_map}
+use Rattle.std.proofs.Common.{◌≡◌, ◌⊎◌, ℕ, max, ◌==◌, ◌&&◌, ◌||◌, not, Bool, true, false, List, [], ◌∷◌, ◌++◌, map, flat_map, Option, Some, None, Ok, option_map, refl, sym, ap}
+use Rattle.std.proofs.Common.{subst, ◌∙◌, inl, inr, ⊎_elim, eqb-true, ne_eqb}
 use Rattle.std.specs.List.{list_any}
 use Rattle.std.specs.Str.{bytes_eq}
-use Rattle.std.proofs.Common.{refl, sym, ap, subst, ◌∙◌, inl, inr, ⊎_elim, eqb-true, ne_eqb}
 use Rattle.std.proofs.lemmas.Bool.{cond_both, cases_Bool, both_ways, false≢true, and_parts}
 use Rattle.std.proofs.lemmas.Slice.Eq.{bytes_eq-Decides}
-use Rattle.ci_machine.specs.declared.records.BoardRow.{BoardRow}
-use Rattle.ci_machine.specs.declared.records.Holder.{Holder}
-use Rattle.ci_machine.specs.declared.records.Pipeline.{Pipeline}
-use Rattle.ci_machine.specs.declared.records.Job.{Job}
-use Rattle.ci_machine.specs.declared.records.Attempt.{Attempt}
-use Rattle.ci_machine.specs.declared.records.QueuedJob.{QueuedJob}
-use Rattle.ci_values.specs.declared.attempts.AttemptState.{AttemptState}
-use Rattle.ci_values.specs.declared.attempts.AttemptState.TheVariants.{Failed}
-use Rattle.ci_machine.specs.declared.lease.Lease.{Lease}
-use Rattle.ci_machine.specs.declared.change.RowChange.{RowChange}
-use Rattle.ci_machine.specs.declared.change.RowChange.TheVariants.{Put, Remove}
-use Rattle.ci_machine.specs.declared.change.Record.TheVariants as row
-use Rattle.ci_machine.specs.declared.change.Key.TheVariants as key
-use Rattle.ci_machine.specs.declared.request.Request.{Request}
-use Rattle.ci_machine.specs.declared.request.Event.{Event}
-use Rattle.ci_machine.specs.declared.request.Event.TheVariants as event
-use Rattle.ci_machine.specs.declared.request.Seed.{Seed}
-use Rattle.ci_machine.specs.declared.reply.Answer.{Answer}
-use Rattle.ci_machine.specs.declared.reply.Answer.TheVariants as answer
-use Rattle.ci_machine.specs.declared.reply.Swept.{Swept}
-use Rattle.ci_machine.specs.State.{State, changed, applied, put, attempt_cmp, mode_cmp}
-use Rattle.ci_machine.specs.Statuses.{jobs_of}
-use Rattle.ci_machine.specs.Leases.{is_live, is_over, cause_of, first_due}
-use Rattle.ci_machine.specs.Eligible.{holds, is_free}
-use Rattle.ci_machine.specs.Groups.{held_claim}
-use Rattle.ci_machine.specs.Waiting.{groups_in}
-use Rattle.ci_machine_steps.specs.Cancels.{cancellable_jobs, cancel}
-use Rattle.ci_machine_steps.specs.Plans.{Plan}
-use Rattle.ci_machine_steps.specs.Projects.{made_project}
-use Rattle.ci_machine_steps.specs.Runners.{made_runner, runner_paused}
-use Rattle.ci_machine_steps.specs.Files.{file_set}
-use Rattle.ci_machine_steps.specs.Variables.{variable_set, variable_gone}
-use Rattle.ci_machine_steps.specs.Pipelines.{creation, creation_changes}
-use Rattle.ci_machine_steps.specs.Reports.{ended}
-use Rattle.ci_machine_steps.specs.Traces.{grown}
-use Rattle.ci_machine_steps.specs.Sweeps.{sweep}
-use Rattle.ci_machine_steps.specs.Prunes.{is_job_among, without_pipeline}
-use Rattle.ci_machine.specs.Holders.{queued_at, group_held, held_by, held_of, holders, is_in_group}
-use Rattle.ci_machine_steps.specs.Step.{Happens, job_at, pipeline_at, project_or_none, queued, lease_of, leases, live_attempts, redundant_in, cancellable_in}
-use Rattle.ci_machine_steps.specs.History.{Past, Leads}
-use Rattle.ci_machine_steps.specs.Laws.{job_for_good, OneLeaseInGroup}
+use Rattle.ci_machine_steps.specs.Prelude.{BoardRow, Holder, Pipeline, Job, Attempt, QueuedJob, AttemptState, Lease, RowChange, Put, Remove, Record, Key, Request, Event, Seed}
+use Rattle.ci_machine_steps.specs.Prelude.{Answer, Swept, State, changed, applied, put, attempt_cmp, mode_cmp, jobs_of, is_live, is_over, cause_of, first_due, holds, is_free}
+use Rattle.ci_machine_steps.specs.Prelude.{held_claim, groups_in, cancellable_jobs, cancel, Plan, made_project, made_runner, runner_paused, file_set, variable_set, variable_gone}
+use Rattle.ci_machine_steps.specs.Prelude.{creation, creation_changes, ended, grown, sweep, is_job_among, without_pipeline, queued_at, group_held, held_by, held_of, holders}
+use Rattle.ci_machine_steps.specs.Prelude.{is_in_group, Happens, job_at, pipeline_at, project_or_none, queued, lease_of, leases, live_attempts, redundant_in, cancellable_in, Past}
+use Rattle.ci_machine_steps.specs.Prelude.{Leads, job_for_good, OneLeaseInGroup}
+use Rattle.ci_machine.specs.Prelude.{Failed}
 use Rattle.ci_machine.proofs.Keyed.{not_true, Has, Rising, has_put, has_filter, filter_has, has_find, find_has, find-map, count_one, Named, rising_filter}
 use Rattle.ci_machine.proofs.Filters.{find_implied}
 use Rattle.ci_machine.proofs.Claims.{free_held, free_not_held}
@@ -177,7 +143,7 @@ module _ (s : State) (board : List BoardRow) (request : Request) where
   ends a state has =
       let x = record a { state = state } in
       let t : State = record s { attempts = put attempt_cmp x s.attempts } in
-      cond_both (is_live a) (Put (row.Attempt x) ∷ []) [] (λ cs. Come s (applied cs s)) (λ live. alters s t x a has refl refl refl (λ l. live) refl) (λ _. stays s s refl)
+      cond_both (is_live a) (Put (Record.Attempt x) ∷ []) [] (λ cs. Come s (applied cs s)) (λ live. alters s t x a has refl refl refl (λ l. live) refl) (λ _. stays s s refl)
 
   grows : (a : Attempt) (bytes : List ℕ) (now size : ℕ) → Has a s.attempts → Comes (grown a bytes now size)
   grows a bytes now size has =
@@ -195,7 +161,7 @@ module _ (s : State) (board : List BoardRow) (request : Request) where
     variable = λ project new. stays s (applied (variable_set project new).1 s) refl;
     gone = λ v. stays s (applied (variable_gone v).1 s) refl;
     mode = λ new is m. stays s (record s { modes = put mode_cmp m s.modes }) refl;
-    unordered = λ new is project group. stays s (changed (Remove (key.Mode project group)) s) refl;
+    unordered = λ new is project group. stays s (changed (Remove (Key.Mode project group)) s) refl;
     mode_shown = λ group order. stays s s refl;
     pipeline = λ new now is project text laid claims rows asked has named file lays.
         stays s (applied (creation_changes s.next.job (creation s.next.pipeline s.next.job new (given_in s new) now laid)) s) (ap (λ (t : State). t.attempts) (after_creation s.next.job (creation s.next.pipeline s.next.job new (given_in s new) now laid) s));
@@ -235,12 +201,12 @@ swept s board now (Some l) found redundant =
     alters s (record s { attempts = put attempt_cmp x s.attempts }) x l.attempt (subst (λ (b : Attempt). Has b s.attempts) is has.0) refl refl refl (λ _. subst (λ (b : Attempt). is_live b ≡ true) is has.1) refl
 
 comes : (s : State) (board : List BoardRow) (e : Event) (now : ℕ) (seed : Seed) (a : Answer) (changes : List RowChange) → Rising job_id 0 s.jobs → Rising (λ (b : Attempt). b.id) 0 s.attempts → Happens s board e now seed a changes → Come s (applied changes s)
-comes s board (event.Request r) now seed (answer.Reply reply) changes jobs_rise rise is = does s board (Comes s board r) r (each s board r jobs_rise rise) now seed (reply, changes) is
-comes s board event.Sweep now seed (answer.Swept out) changes jobs_rise rise is =
+comes s board (Event.Request r) now seed (Answer.Reply reply) changes jobs_rise rise is = does s board (Comes s board r) r (each s board r jobs_rise rise) now seed (reply, changes) is
+comes s board Event.Sweep now seed (Answer.Swept out) changes jobs_rise rise is =
     let P : Swept × List RowChange → Type 0 = λ f. Come s (applied f.1 s) in
     subst P (sym is) (swept s board now (first_due (leases s) now) refl (redundant_in s board))
-comes s board (event.Request r) now seed (answer.Swept out) changes jobs_rise rise is = absurd is
-comes s board event.Sweep now seed (answer.Reply reply) changes jobs_rise rise is = absurd is
+comes s board (Event.Request r) now seed (Answer.Swept out) changes jobs_rise rise is = absurd is
+comes s board Event.Sweep now seed (Answer.Reply reply) changes jobs_rise rise is = absurd is
 
 -- ---- every state that a history leads to
 

@@ -1,14 +1,8 @@
 -- What stays, which records others name, which jobs wait for which, and what sweeps end and requests prune, in every state that a history
 -- leads to.
-use Rattle.std.specs.Prelude.{◌≡◌, true, List, [], ◌∷◌}
-use Rattle.std.proofs.Common.{sym, subst, ⊎_elim, arith}
-use Rattle.ci_machine.specs.declared.records.Project.{Project}
-use Rattle.ci_machine.specs.declared.records.Runner.{Runner}
-use Rattle.ci_machine.specs.declared.records.Pipeline.{Pipeline}
-use Rattle.ci_machine.specs.declared.records.Job.{Job}
-use Rattle.ci_machine.specs.State.{State, empty, applied, job_variable_cmp}
-use Rattle.ci_machine_steps.specs.History.{Past, Leads}
-use Rattle.ci_machine_steps.specs.Laws.{IsLinked, IsSweptBy, IsPrunedBy, is_grant, GivesInOrder}
+use Rattle.std.proofs.Common.{◌≡◌, true, List, [], ◌∷◌, sym, subst, ⊎_elim, arith}
+use Rattle.ci_machine_steps.specs.Prelude.{Project, Runner, Pipeline, Job, State, empty, applied, job_variable_cmp, Past, Leads, IsLinked, IsSweptBy, IsPrunedBy, is_grant}
+use Rattle.ci_machine_steps.specs.Prelude.{GivesInOrder}
 use Rattle.ci_machine.proofs.Keyed.{Has, All-from_has, contains_named}
 use Rattle.ci_machine_steps.proofs.Variables.{Ordered, changes_ordered, gives_in_order}
 use Rattle.ci_machine_laws.proofs.Reached.{reached}

@@ -1,38 +1,10 @@
 -- Each job came into its pipeline by its rules, in every state that a history leads to.
-use Rattle.std.specs.Prelude.{◌≡◌, ◌⊎◌, ℕ, List, [], ◌∷◌, Option, Some, None, Ok}
-use Rattle.std.proofs.Common.{refl, sym, ap, subst, ◌∙◌, inl, inr, ⊎_elim}
+use Rattle.std.proofs.Common.{◌≡◌, ◌⊎◌, ℕ, List, [], ◌∷◌, Option, Some, None, Ok, refl, sym, ap, subst, ◌∙◌, inl, inr, ⊎_elim}
 use Rattle.std.proofs.lemmas.Bool.{cond_both}
 use Rattle.std.proofs.lemmas.List.Elements.{Contains-append_right}
-use Rattle.ci_board.specs.declared.facts.Row.{Row}
-use Rattle.ci_machine.specs.declared.lease.Lease.{Lease}
-use Rattle.ci_machine.specs.declared.records.BoardRow.{BoardRow}
-use Rattle.ci_machine.specs.declared.records.Claim.{Claim}
-use Rattle.ci_machine.specs.declared.records.Project.{Project}
-use Rattle.ci_machine.specs.declared.records.Pipeline.{Pipeline}
-use Rattle.ci_machine.specs.declared.records.Job.{Job}
-use Rattle.ci_machine.specs.declared.records.Attempt.{Attempt}
-use Rattle.ci_machine.specs.declared.change.RowChange.{RowChange}
-use Rattle.ci_machine.specs.declared.change.RowChange.TheVariants.{Put}
-use Rattle.ci_machine.specs.declared.change.Record.TheVariants as row
-use Rattle.ci_machine.specs.declared.request.NewPipeline.{NewPipeline}
-use Rattle.ci_machine.specs.declared.request.Request.{Request}
-use Rattle.ci_machine.specs.declared.request.Request.TheVariants.{CreatePipeline}
-use Rattle.ci_machine.specs.declared.request.Event.{Event}
-use Rattle.ci_machine.specs.declared.request.Event.TheVariants as event
-use Rattle.ci_machine.specs.declared.request.Seed.{Seed}
-use Rattle.ci_machine.specs.declared.reply.Answer.{Answer}
-use Rattle.ci_machine.specs.declared.reply.Answer.TheVariants as answer
-use Rattle.ci_machine.specs.declared.reply.Swept.{Swept}
-use Rattle.ci_machine.specs.State.{State, applied, job_cmp}
-use Rattle.ci_machine.specs.Leases.{is_live, first_due}
-use Rattle.ci_machine_steps.specs.Plans.{Plan}
-use Rattle.ci_machine_steps.specs.Pipelines.{Layout, IsLaidOut, new_job, creation, pipeline_created}
-use Rattle.ci_machine_steps.specs.Reports.{ended}
-use Rattle.ci_machine_steps.specs.Sweeps.{sweep}
-use Rattle.ci_machine_steps.specs.Cancels.{cancellable_jobs, cancel}
-use Rattle.ci_machine_steps.specs.Step.{Happens, leases, redundant_in, cancellable_in}
-use Rattle.ci_machine_steps.specs.History.{Past, Leads}
-use Rattle.ci_machine_steps.specs.Laws.{job_for_good, IsMadeBy, WasIncluded}
+use Rattle.ci_machine_steps.specs.Prelude.{Row, Lease, BoardRow, Claim, Project, Pipeline, Job, Attempt, RowChange, Put, Record, NewPipeline, Request, CreatePipeline, Event, Seed}
+use Rattle.ci_machine_steps.specs.Prelude.{Answer, Swept, State, applied, job_cmp, is_live, first_due, Plan, Layout, IsLaidOut, new_job, creation, pipeline_created, ended, sweep}
+use Rattle.ci_machine_steps.specs.Prelude.{cancellable_jobs, cancel, Happens, leases, redundant_in, cancellable_in, Past, Leads, job_for_good, IsMadeBy, WasIncluded}
 use Rattle.ci_machine.proofs.Keyed.{Has, Rising, contains_from_has}
 use Rattle.ci_machine_steps.proofs.Behind.{has_all}
 use Rattle.ci_machine_steps.proofs.Created.{after_creation, new_are, laid_is, lineup_are}
@@ -62,7 +34,7 @@ Are s e now seed a changes = (j : Job) → Has j (applied changes s).jobs → Wa
 
 module _ (s : State) (board : List BoardRow) (request : Request) (now : ℕ) (seed : Seed) where
   abbrev From : Plan → Type 0
-  From plan = Are s (event.Request request) now seed (answer.Reply plan.0) plan.1
+  From plan = Are s (Event.Request request) now seed (Answer.Reply plan.0) plan.1
 
   makes : (new : NewPipeline) (at : ℕ) → request ≡ CreatePipeline new → (project : Project) (text : List ℕ) (laid : Layout) (claims : List Claim) (rows : List Row) → of_asked s new.token new.project ≡ Ok project → project.file ≡ Some text
       → IsLaidOut text (given_in s new) (Ok laid) → From (pipeline_created s.next.job (creation s.next.pipeline s.next.job new (given_in s new) at laid) claims rows)
@@ -75,7 +47,7 @@ module _ (s : State) (board : List BoardRow) (request : Request) (now : ℕ) (se
       let of = lineup_are (given_in s new) laid.config n.as_said (subst (Has n.as_said) lays.1.0 n.has) in
       inr (record {
         new = new;
-        asked = ap event.Request is;
+        asked = ap Event.Request is;
         reply = (pipeline_created s.next.job made claims rows).0;
         answered = refl;
         made = refl;
@@ -113,7 +85,7 @@ module _ (s : State) (board : List BoardRow) (request : Request) (now : ℕ) (se
     turned_away = λ fault j k. inl (there s j k);
     heard = λ a seen has j k. inl (there s j k);
     ended = λ a state has.
-        cond_both (is_live a) (Put (row.Attempt (record a { state = state })) ∷ []) [] (λ cs. (j : Job) → Has j (applied cs s).jobs → Was s j ⊎ IsMadeBy (line s (event.Request request) now seed (answer.Reply (ended a (Ok state)).0)) j)
+        cond_both (is_live a) (Put (Record.Attempt (record a { state = state })) ∷ []) [] (λ cs. (j : Job) → Has j (applied cs s).jobs → Was s j ⊎ IsMadeBy (line s (Event.Request request) now seed (Answer.Reply (ended a (Ok state)).0)) j)
         (λ _ j k. inl (there s j k)) (λ _ j k. inl (there s j k));
     misplaced = λ fault j k. inl (there s j k);
     grown = λ a bytes at size has j k. inl (there s j k);
@@ -132,12 +104,12 @@ swept s board None None j k = there s j k
 
 are : (s : State) (board : List BoardRow) (e : Event) (now : ℕ) (seed : Seed) (a : Answer) (changes : List RowChange) → Rising (λ (w : Job). w.id) 0 s.jobs → Rising (λ (b : Attempt). b.id) 0 s.attempts
     → Happens s board e now seed a changes → Are s e now seed a changes
-are s board (event.Request r) now seed (answer.Reply reply) changes jobs_rise rise is = does s board (From s board r now seed) r (each s board r now seed jobs_rise rise) now seed (reply, changes) is
-are s board event.Sweep now seed (answer.Swept out) changes jobs_rise rise is = λ j k.
+are s board (Event.Request r) now seed (Answer.Reply reply) changes jobs_rise rise is = does s board (From s board r now seed) r (each s board r now seed jobs_rise rise) now seed (reply, changes) is
+are s board Event.Sweep now seed (Answer.Swept out) changes jobs_rise rise is = λ j k.
     let P : Swept × List RowChange → Type 0 = λ f. Has j (applied f.1 s).jobs → Was s j in
     inl (subst P (sym is) (swept s board (first_due (leases s) now) (redundant_in s board) j) k)
-are s board (event.Request r) now seed (answer.Swept out) changes jobs_rise rise is = absurd is
-are s board event.Sweep now seed (answer.Reply reply) changes jobs_rise rise is = absurd is
+are s board (Event.Request r) now seed (Answer.Swept out) changes jobs_rise rise is = absurd is
+are s board Event.Sweep now seed (Answer.Reply reply) changes jobs_rise rise is = absurd is
 
 more : (p : Past) (h : List Past) (j : Job) → WasIncluded h j → WasIncluded (p ∷ h) j
 more p h j w = (w.0, Contains-append_right (p ∷ []) h w.0 w.1, w.2)

@@ -1,39 +1,15 @@
 -- Which jobs wait for which, before each step and after it: those of one pipeline, and in no circle.
-use Rattle.std.specs.Prelude.{◌≡◌, ◌⊎◌, ℕ, ◌+◌, ◌<◌, ◌≤◌, List, [], ◌∷◌, ◌++◌, length, map, Option, Some, None, Contains, Result, Ok, Err}
-use Rattle.std.proofs.Common.{refl, sym, ap, subst, ◌∙◌, inl, inr, ⊎_elim, arith}
+use Rattle.std.proofs.Common.{◌≡◌, ◌⊎◌, ℕ, ◌+◌, ◌<◌, ◌≤◌, List, [], ◌∷◌, ◌++◌, length, map, Option, Some, None, Contains, Result, Ok, Err, refl, sym, ap, subst, ◌∙◌, inl, inr}
+use Rattle.std.proofs.Common.{⊎_elim, arith}
 use Rattle.std.proofs.lemmas.Bool.{cond_both}
-use Rattle.ci_config.specs.Config.{Config}
-use Rattle.ci_graph.specs.Pairs.{IsWalk, HasWalk, IsAcyclic}
-use Rattle.ci_graph_layout.specs.Inclusion.{Given}
+use Rattle.ci_graph_layout.specs.Prelude.{Config, Given, Plans, faulty, cyclic}
+use Rattle.ci_machine.specs.Prelude.{IsWalk, HasWalk, IsAcyclic}
 use Rattle.ci_graph_layout.specs.Fault as layout
-use Rattle.ci_graph_layout.specs.Fault.{Plans, faulty, cyclic}
 use Rattle.ci_graph_layout.specs.declared.fault.GraphCode.{GraphCode}
-use Rattle.ci_machine.specs.declared.lease.Lease.{Lease}
-use Rattle.ci_machine.specs.declared.records.BoardRow.{BoardRow}
-use Rattle.ci_machine.specs.declared.records.Pipeline.{Pipeline}
-use Rattle.ci_machine.specs.declared.records.Job.{Job}
-use Rattle.ci_machine.specs.declared.records.Need.{Need}
-use Rattle.ci_machine.specs.declared.records.Attempt.{Attempt}
-use Rattle.ci_machine.specs.declared.change.RowChange.{RowChange}
-use Rattle.ci_machine.specs.declared.change.RowChange.TheVariants.{Put}
-use Rattle.ci_machine.specs.declared.change.Record.TheVariants as row
-use Rattle.ci_machine.specs.declared.request.NewPipeline.{NewPipeline}
-use Rattle.ci_machine.specs.declared.request.Request.{Request}
-use Rattle.ci_machine.specs.declared.request.Event.{Event}
-use Rattle.ci_machine.specs.declared.request.Event.TheVariants as event
-use Rattle.ci_machine.specs.declared.request.Seed.{Seed}
-use Rattle.ci_machine.specs.declared.reply.Answer.{Answer}
-use Rattle.ci_machine.specs.declared.reply.Answer.TheVariants as answer
-use Rattle.ci_machine.specs.declared.reply.Detail.{Detail}
-use Rattle.ci_machine.specs.declared.reply.Swept.{Swept}
-use Rattle.ci_machine.specs.State.{State, applied, job_cmp, need_cmp}
-use Rattle.ci_machine.specs.Leases.{is_live, first_due}
-use Rattle.ci_machine_steps.specs.Plans.{Plan}
+use Rattle.ci_machine_steps.specs.Prelude.{Lease, BoardRow, Pipeline, Job, Need, Attempt, RowChange, Put, Record, NewPipeline, Request, Event, Seed, Answer, Detail, Swept, State}
+use Rattle.ci_machine_steps.specs.Prelude.{applied, job_cmp, need_cmp, is_live, first_due, Plan, Layout, IsLaidOut, misread, unplanned, creation, need_of, sweep, cancellable_jobs}
+use Rattle.ci_machine_steps.specs.Prelude.{cancel, Happens, leases, redundant_in, cancellable_in}
 use Rattle.ci_machine_steps.specs.Pipelines as pipelines
-use Rattle.ci_machine_steps.specs.Pipelines.{Layout, IsLaidOut, misread, unplanned, creation, need_of}
-use Rattle.ci_machine_steps.specs.Sweeps.{sweep}
-use Rattle.ci_machine_steps.specs.Cancels.{cancellable_jobs, cancel}
-use Rattle.ci_machine_steps.specs.Step.{Happens, leases, redundant_in, cancellable_in}
 use Rattle.ci_machine.proofs.Keyed.{Has, Rising, has_filter, contains_from_has, has_from_contains, has_map, map_has}
 use Rattle.ci_machine_steps.proofs.Behind.{in_either, has_all, put_all}
 use Rattle.ci_machine_steps.proofs.Created.{created_state, after_creation, IsNew, new_are, needs_are, jobs_behind}
@@ -253,7 +229,7 @@ each s board request i was jobs_rise rise = record {
   granted = λ runner job q variables now seed has_runner has_job pending is_queued free. was;
   turned_away = λ fault. was;
   heard = λ a seen has. was;
-  ended = λ a state has. cond_both (is_live a) (Put (row.Attempt (record a { state = state })) ∷ []) [] (λ cs. Joined (applied cs s).jobs (applied cs s).needs) (λ _. was) (λ _. was);
+  ended = λ a state has. cond_both (is_live a) (Put (Record.Attempt (record a { state = state })) ∷ []) [] (λ cs. Joined (applied cs s).jobs (applied cs s).needs) (λ _. was) (λ _. was);
   misplaced = λ fault. was;
   grown = λ a bytes now size has. was;
   pipeline_shown = λ p claims jobs facts rows. was;
@@ -274,12 +250,12 @@ swept s board was (Some l) redundant = was
 
 pub joined_on : (s : State) (board : List BoardRow) (e : Event) (now : ℕ) (seed : Seed) (a : Answer) (changes : List RowChange) → Linked s → Joined s.jobs s.needs → Rising (λ (j : Job). j.id) 0 s.jobs → Rising (λ (w : Attempt). w.id) 0 s.attempts
     → Happens s board e now seed a changes → Joined (applied changes s).jobs (applied changes s).needs
-joined_on s board (event.Request request) now seed (answer.Reply reply) changes i was jobs_rise rise is = does s board (After s) request (each s board request i was jobs_rise rise) now seed (reply, changes) is
-joined_on s board event.Sweep now seed (answer.Swept ended) changes i was jobs_rise rise is =
+joined_on s board (Event.Request request) now seed (Answer.Reply reply) changes i was jobs_rise rise is = does s board (After s) request (each s board request i was jobs_rise rise) now seed (reply, changes) is
+joined_on s board Event.Sweep now seed (Answer.Swept ended) changes i was jobs_rise rise is =
     let P : Swept × List RowChange → Type 0 = λ f. Joined (applied f.1 s).jobs (applied f.1 s).needs in
     subst P (sym is) (swept s board was (first_due (leases s) now) (redundant_in s board))
-joined_on s board (event.Request request) now seed (answer.Swept ended) changes i was jobs_rise rise is = absurd is
-joined_on s board event.Sweep now seed (answer.Reply reply) changes i was jobs_rise rise is = absurd is
+joined_on s board (Event.Request request) now seed (Answer.Swept ended) changes i was jobs_rise rise is = absurd is
+joined_on s board Event.Sweep now seed (Answer.Reply reply) changes i was jobs_rise rise is = absurd is
 
 no_walk : (i : ℕ) (ks : List ℕ) (j : ℕ) → IsWalk [] i ks j → ⊥
 no_walk i [] j c = has_from_contains (i, j) [] c

@@ -1,16 +1,8 @@
 -- What is left once a pipeline is pruned, and what became of that which was there in an earlier state.
-use Rattle.std.specs.Prelude.{◌≡◌, ◌⊎◌, ℕ, ◌≤◌, true, false, ◌==◌, not, List, ◌∷◌, length}
-use Rattle.std.proofs.Common.{refl, sym, ap, subst, ◌∙◌, inl, inr, ⊎_elim, eqb-true, eq-eqb, ne_eqb}
+use Rattle.std.proofs.Common.{◌≡◌, ◌⊎◌, ℕ, ◌≤◌, true, false, ◌==◌, not, List, ◌∷◌, length, refl, sym, ap, subst, ◌∙◌, inl, inr, ⊎_elim, eqb-true, eq-eqb, ne_eqb}
 use Rattle.std.proofs.lemmas.Bool.{both_ways, cases_Bool}
-use Rattle.ci_machine.specs.declared.records.Pipeline.{Pipeline}
-use Rattle.ci_machine.specs.declared.records.Job.{Job}
-use Rattle.ci_machine.specs.declared.records.Need.{Need}
-use Rattle.ci_machine.specs.declared.records.Attempt.{Attempt}
-use Rattle.ci_machine.specs.State.{State}
-use Rattle.ci_machine.specs.Statuses.{jobs_of}
-use Rattle.ci_machine_steps.specs.Prunes.{is_job_among, without_pipeline}
-use Rattle.ci_machine_steps.specs.History.{Past}
-use Rattle.ci_machine_steps.specs.Laws.{project_for_good, runner_for_good, job_for_good, attempt_for_good, Prunes, WasPruned, WentWithItsJob}
+use Rattle.ci_machine_steps.specs.Prelude.{Pipeline, Job, Need, Attempt, State, jobs_of, is_job_among, without_pipeline, Past, project_for_good, runner_for_good, job_for_good}
+use Rattle.ci_machine_steps.specs.Prelude.{attempt_for_good, Prunes, WasPruned, WentWithItsJob}
 use Rattle.ci_machine.proofs.Keyed.{not_true, Has, Rising, rising_filter, has_filter, filter_has, Named}
 use Rattle.ci_machine_steps.proofs.Pruned.{among_its, job_left, job_was, attempts_left, attempt_was, attempt_left}
 use Rattle.ci_machine_laws.proofs.Gone.{still_pruned, still_gone, is_pruned, goes_with}

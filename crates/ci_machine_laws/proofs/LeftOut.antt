@@ -1,8 +1,6 @@
 -- What changed nothing can be left out.
-use Rattle.std.specs.Prelude.{List, [], ◌∷◌}
-use Rattle.std.proofs.Common.{sym, subst, ⊎_elim}
-use Rattle.ci_machine.specs.State.{State}
-use Rattle.ci_machine_steps.specs.History.{Past, Leads}
+use Rattle.std.proofs.Common.{List, [], ◌∷◌, sym, subst, ⊎_elim}
+use Rattle.ci_machine_steps.specs.Prelude.{State, Past, Leads}
 use Rattle.ci_machine_laws.specs.Unchanged.{LeadsOrStays, AreSome, none, kept, left_out}
 
 pub without_idle : (lines : List Past) (s : State) → LeadsOrStays lines s → (h : List Past) × AreSome h lines × Leads h s

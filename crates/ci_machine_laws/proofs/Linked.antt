@@ -1,43 +1,13 @@
 -- What a step leaves, and which records others name.
-use Rattle.std.specs.Prelude.{◌≡◌, ◌⊎◌, ℕ, ◌+◌, ◌<◌, ◌≤◌, Bool, ◌==◌, not, max, List, [], ◌∷◌, ◌++◌, length, filter, Option, Some, None, Ok}
-use Rattle.std.specs.Ordering.{nat_cmp, is_eq, is_lt}
-use Rattle.std.specs.declared.cmp.Ordering.{Ordering}
-use Rattle.std.proofs.Common.{refl, sym, ap, subst, ◌∙◌, inl, inr, ⊎_elim, arith}
+use Rattle.std.proofs.Common.{◌≡◌, ◌⊎◌, ℕ, ◌+◌, ◌<◌, ◌≤◌, Bool, ◌==◌, not, max, List, [], ◌∷◌, ◌++◌, length, filter, Option, Some, None, Ok, nat_cmp, is_eq, is_lt, Ordering, refl}
+use Rattle.std.proofs.Common.{sym, ap, subst, ◌∙◌, inl, inr, ⊎_elim, arith}
 use Rattle.std.proofs.lemmas.Bool.{cases_Bool, cond_both}
-use Rattle.ci_machine.specs.declared.records.BoardRow.{BoardRow}
-use Rattle.ci_machine.specs.declared.records.Need.{Need}
-use Rattle.ci_machine.specs.declared.records.Project.{Project}
-use Rattle.ci_machine.specs.declared.records.Runner.{Runner}
-use Rattle.ci_machine.specs.declared.records.Pipeline.{Pipeline}
-use Rattle.ci_machine.specs.declared.records.QueuedJob.{QueuedJob}
-use Rattle.ci_machine.specs.declared.records.Job.{Job}
-use Rattle.ci_machine.specs.declared.records.Variable.{Variable}
-use Rattle.ci_machine.specs.declared.records.Attempt.{Attempt}
-use Rattle.ci_machine.specs.declared.records.GroupMode.{GroupMode}
-use Rattle.ci_machine.specs.declared.lease.Lease.{Lease}
-use Rattle.ci_machine.specs.declared.change.RowChange.{RowChange}
-use Rattle.ci_machine.specs.declared.change.RowChange.TheVariants.{Put}
-use Rattle.ci_machine.specs.declared.change.Record.TheVariants as row
-use Rattle.ci_machine.specs.declared.request.NewPipeline.{NewPipeline}
-use Rattle.ci_machine.specs.declared.request.Request.{Request}
-use Rattle.ci_machine.specs.declared.request.Event.{Event}
-use Rattle.ci_machine.specs.declared.request.Event.TheVariants as event
-use Rattle.ci_machine.specs.declared.request.Seed.{Seed}
-use Rattle.ci_machine.specs.declared.reply.Answer.{Answer}
-use Rattle.ci_machine.specs.declared.reply.Answer.TheVariants as answer
-use Rattle.ci_machine.specs.declared.reply.Swept.{Swept}
-use Rattle.ci_machine.specs.State.{State, applied, placed, put, others, variable_cmp, pipeline_cmp, job_cmp, need_cmp, attempt_cmp, mode_cmp}
-use Rattle.ci_machine.specs.Statuses.{attempts_of}
-use Rattle.ci_machine.specs.Leases.{is_live, is_over, first_due}
-use Rattle.ci_machine_steps.specs.Plans.{Plan}
-use Rattle.ci_graph_layout.specs.Inclusion.{Given}
-use Rattle.ci_machine_steps.specs.Pipelines.{Layout, IsLaidOut, creation}
-use Rattle.ci_machine_steps.specs.Sweeps.{sweep}
-use Rattle.ci_machine_steps.specs.Prunes.{is_prunable}
-use Rattle.ci_machine_steps.specs.Traces.{grown as traces_grown}
-use Rattle.ci_machine_steps.specs.Cancels.{cancellable_jobs, cancel}
-use Rattle.ci_machine_steps.specs.Step.{Happens, lease_of, leases, live_attempts, redundant_in, cancellable_in}
-use Rattle.ci_machine_steps.specs.Laws.{project_for_good, runner_for_good, job_for_good, attempt_for_good}
+use Rattle.ci_machine_steps.specs.Prelude.{BoardRow, Need, Project, Runner, Pipeline, QueuedJob, Job, Variable, Attempt, GroupMode, Lease, RowChange, Put, Record, NewPipeline}
+use Rattle.ci_machine_steps.specs.Prelude.{Request, Event, Seed, Answer, Swept, State, applied, placed, put, others, variable_cmp, pipeline_cmp, job_cmp, need_cmp, attempt_cmp}
+use Rattle.ci_machine_steps.specs.Prelude.{mode_cmp, attempts_of, is_live, is_over, first_due, Plan, Layout, IsLaidOut, creation, sweep, is_prunable, grown as traces_grown}
+use Rattle.ci_machine_steps.specs.Prelude.{cancellable_jobs, cancel, Happens, lease_of, leases, live_attempts, redundant_in, cancellable_in, project_for_good, runner_for_good}
+use Rattle.ci_machine_steps.specs.Prelude.{job_for_good, attempt_for_good}
+use Rattle.ci_graph_layout.specs.Prelude.{Given}
 use Rattle.ci_machine.proofs.Keyed.{Has, Rising, has_put, put_has, same, rising_put, has_filter, has_find, find-map, one_at, Below, Named}
 use Rattle.ci_machine_laws.proofs.Counts.{passing_new, passing_put}
 use Rattle.ci_machine_steps.proofs.Behind.{in_either, has_left, has_right, put_all, has_all}
@@ -135,15 +105,6 @@ pub record Later (s t : State) : Type 0 where
   pub pipelines : Kept (λ p. p) s.pipelines t.pipelines
   pub jobs : Kept job_for_good s.jobs t.jobs
   pub attempts : Kept attempt_for_good s.attempts t.attempts
-
-later_through : (s m t : State) → Later s m → Later m t → Later s t
-later_through s m t a b = record {
-  projects = kept_through project_for_good s.projects m.projects t.projects a.projects b.projects;
-  runners = kept_through runner_for_good s.runners m.runners t.runners a.runners b.runners;
-  pipelines = kept_through (λ p. p) s.pipelines m.pipelines t.pipelines a.pipelines b.pipelines;
-  jobs = kept_through job_for_good s.jobs m.jobs t.jobs a.jobs b.jobs;
-  attempts = kept_through attempt_for_good s.attempts m.attempts t.attempts a.attempts b.attempts;
-}
 
 later_self : (s : State) → Later s s
 later_self s = record {
@@ -274,7 +235,7 @@ rests s i = record {
 
 -- an attempt in place of one of its number, job, runner, token and grant
 alters : (s : State) (x a : Attempt) → Linked s → Rising (λ (b : Attempt). b.id) 0 s.attempts → Has a s.attempts → attempt_for_good x ≡ attempt_for_good a
-    → Next s (applied (Put (row.Attempt x) ∷ []) s)
+    → Next s (applied (Put (Record.Attempt x) ∷ []) s)
 alters s x a i r has good = record {
   later = record {
     projects = kept project_for_good s.projects s.projects refl;
@@ -306,7 +267,7 @@ alters s x a i r has good = record {
 -- ---- a project's file
 
 -- a project in place of one of its number, with another file
-files : (s : State) (project : Project) (text : Option (List ℕ)) → Linked s → Has project s.projects → Next s (applied (Put (row.Project (record project { file = text })) ∷ []) s)
+files : (s : State) (project : Project) (text : Option (List ℕ)) → Linked s → Has project s.projects → Next s (applied (Put (Record.Project (record project { file = text })) ∷ []) s)
 files s project text i has =
     let ids = λ (p : Project). p.id in
     let x = record project { file = text } in
@@ -336,7 +297,7 @@ files s project text i has =
     }
 
 -- a runner in place of one of its number, paused or not
-pauses : (s : State) (runner : Runner) (paused : Bool) → Linked s → Has runner s.runners → Next s (applied (Put (row.Runner (record runner { paused = paused })) ∷ []) s)
+pauses : (s : State) (runner : Runner) (paused : Bool) → Linked s → Has runner s.runners → Next s (applied (Put (Record.Runner (record runner { paused = paused })) ∷ []) s)
 pauses s runner paused i has =
     let ids = λ (r : Runner). r.id in
     let x = record runner { paused = paused } in
@@ -365,31 +326,9 @@ pauses s runner paused i has =
       needs = n.needs;
     }
 
--- variables are put, or go
-variables : (s : State) (vs : List Variable) → Linked s → Next s (record s { variables = vs })
-variables s vs i =
-    let n = rests s i in
-    record {
-      later = record { projects = n.later.projects; runners = n.later.runners; pipelines = n.later.pipelines; jobs = n.later.jobs; attempts = n.later.attempts };
-      projects_rise = n.projects_rise;
-      runners_rise = n.runners_rise;
-      pipelines_rise = n.pipelines_rise;
-      project_below = n.project_below;
-      runner_below = n.runner_below;
-      pipeline_below = n.pipeline_below;
-      job_below = n.job_below;
-      next_job = n.next_job;
-      numbered = n.numbered;
-      counts = n.counts;
-      attempts = n.attempts;
-      jobs = n.jobs;
-      pipelines = n.pipelines;
-      needs = n.needs;
-    }
-
--- process modes are put, or go
-modes : (s : State) (ms : List GroupMode) → Linked s → Next s (record s { modes = ms })
-modes s ms i =
+-- variables and process modes are put, or go
+beside : (s : State) (vs : List Variable) (ms : List GroupMode) → Linked s → Next s (record s { variables = vs; modes = ms })
+beside s vs ms i =
     let n = rests s i in
     record {
       later = record { projects = n.later.projects; runners = n.later.runners; pipelines = n.later.pipelines; jobs = n.later.jobs; attempts = n.later.attempts };
@@ -525,7 +464,7 @@ abbrev pub Follows : State → Event → Answer → State → Type 0
 Follows s e a t = Next s t ⊎ IsPruned s e a t
 
 abbrev Goes : State → Request → Plan → Type 0
-Goes s request plan = Follows s (event.Request request) (answer.Reply plan.0) (applied plan.1 s)
+Goes s request plan = Follows s (Event.Request request) (Answer.Reply plan.0) (applied plan.1 s)
 
 goes : (s : State) (board : List BoardRow) (request : Request) → Linked s → Rising (λ (j : Job). j.id) 0 s.jobs → Rising (λ (a : Attempt). a.id) 0 s.attempts → Below (λ (a : Attempt). a.id) s.next.attempt s.attempts → Each s board request (Goes s request)
 goes s board request i jr r b = record {
@@ -579,10 +518,10 @@ goes s board request i jr r b = record {
   });
   paused = λ runner paused has. inl (pauses s runner paused i has);
   file = λ project text c has. inl (files s project (Some text) i has);
-  variable = λ project new. inl (variables s (put variable_cmp (record { project = project.id; key = new.key; value = new.value }) s.variables) i);
-  gone = λ v. inl (variables s _ i);
-  mode = λ new is m. inl (modes s (put mode_cmp m s.modes) i);
-  unordered = λ new is project group. inl (modes s _ i);
+  variable = λ project new. inl (beside s (put variable_cmp (record { project = project.id; key = new.key; value = new.value }) s.variables) s.modes i);
+  gone = λ v. inl (beside s _ s.modes i);
+  mode = λ new is m. inl (beside s s.variables (put mode_cmp m s.modes) i);
+  unordered = λ new is project group. inl (beside s s.variables _ i);
   mode_shown = λ group order. inl (rests s i);
   pipeline = λ new now is project text laid claims rows asked has named file lays.
       inl (subst (Next s) (sym (after_creation s.next.job (creation s.next.pipeline s.next.job new (given_in s new) now laid) s)) (enters s new project (given_in s new) now text laid i has named lays));
@@ -616,7 +555,7 @@ goes s board request i jr r b = record {
   heard = λ a seen has. inl (alters s (record a { seen = seen }) a i r has refl);
   ended = λ a state has.
       let x = record a { state = state } in
-      inl (cond_both (is_live a) (Put (row.Attempt x) ∷ []) [] (λ cs. Next s (applied cs s)) (λ _. alters s x a i r has refl) (λ _. rests s i));
+      inl (cond_both (is_live a) (Put (Record.Attempt x) ∷ []) [] (λ cs. Next s (applied cs s)) (λ _. alters s x a i r has refl) (λ _. rests s i));
   misplaced = λ fault. inl (rests s i);
   grown = λ a bytes now size has. inl (grows a bytes now size has);
   pipeline_shown = λ p claims jobs facts rows. inl (rests s i);
@@ -628,7 +567,7 @@ goes s board request i jr r b = record {
     pipeline = p;
     has = (has_find (is_prunable s board before) p s.pipelines found).0;
     before = before;
-    asked = ap event.Request is;
+    asked = ap Event.Request is;
     answered = refl;
     state = pruned_state s p.id jr r p refl;
   });
@@ -672,9 +611,9 @@ swept_next s board now i jr r (Some l) found redundant =
 
 pub follows : (s : State) (board : List BoardRow) (e : Event) (now : ℕ) (seed : Seed) (a : Answer) (changes : List RowChange) → Linked s → Rising (λ (w : Job). w.id) 0 s.jobs → Rising (λ (w : Attempt). w.id) 0 s.attempts → Below (λ (w : Attempt). w.id) s.next.attempt s.attempts
     → Happens s board e now seed a changes → Follows s e a (applied changes s)
-follows s board (event.Request request) now seed (answer.Reply reply) changes i jr r b is = does s board (Goes s request) request (goes s board request i jr r b) now seed (reply, changes) is
-follows s board event.Sweep now seed (answer.Swept swept) changes i jr r b is =
+follows s board (Event.Request request) now seed (Answer.Reply reply) changes i jr r b is = does s board (Goes s request) request (goes s board request i jr r b) now seed (reply, changes) is
+follows s board Event.Sweep now seed (Answer.Swept swept) changes i jr r b is =
     let P : Swept × List RowChange → Type 0 = λ f. Next s (applied f.1 s) in
     inl (subst P (sym is) (swept_next s board now i jr r (first_due (leases s) now) refl (redundant_in s board)))
-follows s board (event.Request request) now seed (answer.Swept swept) changes i jr r b is = absurd is
-follows s board event.Sweep now seed (answer.Reply reply) changes i jr r b is = absurd is
+follows s board (Event.Request request) now seed (Answer.Swept swept) changes i jr r b is = absurd is
+follows s board Event.Sweep now seed (Answer.Reply reply) changes i jr r b is = absurd is

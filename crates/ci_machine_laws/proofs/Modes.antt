@@ -1,46 +1,17 @@
 -- A request that sets the process mode of a resource group changes that of no other group, and nothing else; and no other event changes one.
-use Rattle.std.specs.Prelude.{◌≡◌, ℕ, Bool, true, false, cond, ◌==◌, ◌&&◌, not, List, [], ◌∷◌, filter, find, Option, Some, None, option_map, Result, Ok, Err}
+use Rattle.std.proofs.Common.{◌≡◌, ℕ, Bool, true, false, cond, ◌==◌, ◌&&◌, not, List, [], ◌∷◌, filter, find, Option, Some, None, option_map, Result, Ok, Err, Ordering, Less, Equal}
+use Rattle.std.proofs.Common.{Greater, nat_cmp, is_eq, is_lt, refl, sym, ap, subst, ◌∙◌, inl, inr, ⊎_elim, eqb-true, eq-eqb}
 use Rattle.std.specs.Str.{bytes_eq}
-use Rattle.std.specs.declared.cmp.Ordering.{Ordering}
-use Rattle.std.specs.declared.cmp.Ordering.TheVariants.{Less, Equal, Greater}
-use Rattle.std.specs.Ordering.{nat_cmp, is_eq, is_lt, ordering_then}
+use Rattle.std.specs.Ordering.{ordering_then}
 use Rattle.std.specs.Cmp.Lexicographic.{slice_cmp}
-use Rattle.std.proofs.Common.{refl, sym, ap, subst, ◌∙◌, inl, inr, ⊎_elim, eqb-true, eq-eqb}
 use Rattle.std.proofs.lemmas.Bool.{cond_both, cond-true, cond-false, cases_Bool, both_ways, and_parts}
 use Rattle.std.proofs.lemmas.Map.Text.{is_eq-slice_cmp}
 use Rattle.std.proofs.lemmas.Slice.Eq.{bytes_eq-Decides}
-use Rattle.ci_machine.specs.declared.lease.Lease.{Lease}
-use Rattle.ci_machine.specs.declared.records.Attempt.{Attempt}
-use Rattle.ci_machine.specs.declared.records.BoardRow.{BoardRow}
-use Rattle.ci_machine.specs.declared.records.Job.{Job}
-use Rattle.ci_machine.specs.declared.records.Pipeline.{Pipeline}
-use Rattle.ci_machine.specs.declared.records.Project.{Project}
-use Rattle.ci_machine.specs.declared.records.GroupMode.{GroupMode}
-use Rattle.ci_machine.specs.declared.records.GroupOrder.{GroupOrder}
-use Rattle.ci_machine.specs.declared.request.Event.TheVariants as event
-use Rattle.ci_machine.specs.declared.request.NewMode.{NewMode}
-use Rattle.ci_machine.specs.declared.request.Request.{Request}
-use Rattle.ci_machine.specs.declared.request.Request.TheVariants.{AddProject, AddRunner, PauseRunner, SetFile, SetVariable, DeleteVariable, SetMode, ShowMode, CreatePipeline, ShowPipeline, AskJob, UpdateJob, AppendTrace, ShowJob, ShowTrace, Read, Play, CancelJob, CancelPipeline, RetryJob, PruneOne}
-use Rattle.ci_machine.specs.declared.request.Event.{Event}
-use Rattle.ci_machine.specs.declared.request.Seed.{Seed}
-use Rattle.ci_machine.specs.declared.reply.Answer.{Answer}
-use Rattle.ci_machine.specs.declared.reply.Answer.TheVariants as answer
-use Rattle.ci_machine.specs.declared.reply.Code.{Code}
-use Rattle.ci_machine.specs.declared.reply.Swept.{Swept}
-use Rattle.ci_machine.specs.declared.change.RowChange.{RowChange}
-use Rattle.ci_machine.specs.declared.change.RowChange.TheVariants.{Put}
-use Rattle.ci_machine.specs.declared.change.Record.TheVariants as row
-use Rattle.ci_machine.specs.Leases.{is_live, first_due}
-use Rattle.ci_machine.specs.State.{State, placed, mode_cmp, applied}
-use Rattle.ci_machine.specs.Groups.{is_mode_of}
-use Rattle.ci_machine_steps.specs.Plans.{Plan}
-use Rattle.ci_machine_steps.specs.Modes.{mode_change, set_mode}
-use Rattle.ci_machine_steps.specs.Pipelines.{creation}
-use Rattle.ci_machine_steps.specs.Cancels.{cancellable_jobs, cancel}
-use Rattle.ci_machine_steps.specs.Sweeps.{sweep}
-use Rattle.ci_machine_steps.specs.Step.{Happens, Step, leases, redundant_in, cancellable_in}
-use Rattle.ci_machine_steps.specs.History.{IsReached}
-use Rattle.ci_machine_steps.specs.Laws.{IsRefusal}
+use Rattle.ci_machine_steps.specs.Prelude.{Lease, Attempt, BoardRow, Job, Pipeline, Project, GroupMode, GroupOrder, NewMode, Request, AddProject, AddRunner, PauseRunner, SetFile}
+use Rattle.ci_machine_steps.specs.Prelude.{SetVariable, DeleteVariable, SetMode, ShowMode, CreatePipeline, ShowPipeline, AskJob, UpdateJob, AppendTrace, ShowJob, ShowTrace, Read}
+use Rattle.ci_machine_steps.specs.Prelude.{Play, CancelJob, CancelPipeline, RetryJob, PruneOne, Event, Seed, Answer, Code, Swept, RowChange, Put, Record, is_live, first_due, State}
+use Rattle.ci_machine_steps.specs.Prelude.{placed, mode_cmp, applied, is_mode_of, Plan, mode_change, set_mode, creation, cancellable_jobs, cancel, sweep, Happens, Step, leases}
+use Rattle.ci_machine_steps.specs.Prelude.{redundant_in, cancellable_in, IsReached, IsRefusal}
 use Rattle.ci_machine.proofs.Keyed.{Has, Rising, has_filter, same, equal}
 use Rattle.ci_machine.proofs.Filters.{find_implied}
 use Rattle.ci_machine_laws.specs.Modes.{SetsMode}
@@ -148,16 +119,16 @@ sets s new project is (Some order) e =
           ∙ others_left project other new.group name apart_from s.modes);
     }
 
-by_plan : (s : State) (new : NewMode) (r : Result Project Code) → Asked s new.project r → (IsRefusal (answer.Reply (set_mode r new).0) → ⊥) → SetsMode s (applied (set_mode r new).1 s) new
+by_plan : (s : State) (new : NewMode) (r : Result Project Code) → Asked s new.project r → (IsRefusal (Answer.Reply (set_mode r new).0) → ⊥) → SetsMode s (applied (set_mode r new).1 s) new
 by_plan s new (Err code) asked fine = absurd (fine refl)
 by_plan s new (Ok project) asked fine = sets s new project.id asked.1 new.order refl
 
-pub sets_mode : (s t : State) (new : NewMode) (now : ℕ) (seed : Seed) (a : Answer) → Step s (event.Request (SetMode new)) now seed a t → (IsRefusal a → ⊥) → SetsMode s t new
-sets_mode s t new now seed (answer.Reply reply) step fine =
-    let P : Plan → Type 0 = λ plan. (IsRefusal (answer.Reply plan.0) → ⊥) → SetsMode s (applied plan.1 s) new in
+pub sets_mode : (s t : State) (new : NewMode) (now : ℕ) (seed : Seed) (a : Answer) → Step s (Event.Request (SetMode new)) now seed a t → (IsRefusal a → ⊥) → SetsMode s t new
+sets_mode s t new now seed (Answer.Reply reply) step fine =
+    let P : Plan → Type 0 = λ plan. (IsRefusal (Answer.Reply plan.0) → ⊥) → SetsMode s (applied plan.1 s) new in
     let is : P (reply, step.changes) = subst P (sym step.happens) (by_plan s new (of_asked s new.token new.project) (is_asked s new.token new.project)) in
     subst (λ (w : State). SetsMode s w new) (sym step.state) (is fine)
-sets_mode s t new now seed (answer.Swept swept) step fine = absurd step.happens
+sets_mode s t new now seed (Answer.Swept swept) step fine = absurd step.happens
 
 -- ---- each other event
 
@@ -187,7 +158,7 @@ each s board request jobs_rise rise = record {
   turned_away = λ fault _. refl;
   heard = λ a seen has _. refl;
   ended = λ a state has.
-      cond_both (is_live a) (Put (row.Attempt (record a { state = state })) ∷ []) [] (λ cs. (IsSetting request → ⊥) → (applied cs s).modes ≡ s.modes) (λ _ _. refl) (λ _ _. refl);
+      cond_both (is_live a) (Put (Record.Attempt (record a { state = state })) ∷ []) [] (λ cs. (IsSetting request → ⊥) → (applied cs s).modes ≡ s.modes) (λ _ _. refl) (λ _ _. refl);
   misplaced = λ fault _. refl;
   grown = λ a bytes now size has _. refl;
   pipeline_shown = λ p claims jobs facts rows _. refl;
@@ -205,7 +176,7 @@ swept s board None (Some p) =
     ap (λ (t : State). t.modes) (after_act s (cancel s.attempts jobs) (cancels s jobs (cancellable_within s board p.id)))
 swept s board (Some l) redundant = refl
 
-setting : (e : Event) → ((new : NewMode) → e ≡ event.Request (SetMode new) → ⊥) → (request : Request) → e ≡ event.Request request → IsSetting request → ⊥
+setting : (e : Event) → ((new : NewMode) → e ≡ Event.Request (SetMode new) → ⊥) → (request : Request) → e ≡ Event.Request request → IsSetting request → ⊥
 setting e other (SetMode new) is it = other new is
 setting e other (AddProject x) is it = it
 setting e other (AddRunner x) is it = it
@@ -229,16 +200,16 @@ setting e other (RetryJob x) is it = it
 setting e other (PruneOne x) is it = it
 
 stay : (s : State) (board : List BoardRow) (e : Event) (now : ℕ) (seed : Seed) (a : Answer) (changes : List RowChange) → Rising (λ (j : Job). j.id) 0 s.jobs → Rising (λ (w : Attempt). w.id) 0 s.attempts
-    → ((new : NewMode) → e ≡ event.Request (SetMode new) → ⊥) → Happens s board e now seed a changes → (applied changes s).modes ≡ s.modes
-stay s board (event.Request request) now seed (answer.Reply reply) changes jobs_rise rise other is =
-    does s board (Keeps s request) request (each s board request jobs_rise rise) now seed (reply, changes) is (setting (event.Request request) other request refl)
-stay s board event.Sweep now seed (answer.Swept out) changes jobs_rise rise other is =
+    → ((new : NewMode) → e ≡ Event.Request (SetMode new) → ⊥) → Happens s board e now seed a changes → (applied changes s).modes ≡ s.modes
+stay s board (Event.Request request) now seed (Answer.Reply reply) changes jobs_rise rise other is =
+    does s board (Keeps s request) request (each s board request jobs_rise rise) now seed (reply, changes) is (setting (Event.Request request) other request refl)
+stay s board Event.Sweep now seed (Answer.Swept out) changes jobs_rise rise other is =
     let P : Swept × List RowChange → Type 0 = λ f. (applied f.1 s).modes ≡ s.modes in
     subst P (sym is) (swept s board (first_due (leases s) now) (redundant_in s board))
-stay s board (event.Request request) now seed (answer.Swept out) changes jobs_rise rise other is = absurd is
-stay s board event.Sweep now seed (answer.Reply reply) changes jobs_rise rise other is = absurd is
+stay s board (Event.Request request) now seed (Answer.Swept out) changes jobs_rise rise other is = absurd is
+stay s board Event.Sweep now seed (Answer.Reply reply) changes jobs_rise rise other is = absurd is
 
-pub modes_stay : (s t : State) (e : Event) (now : ℕ) (seed : Seed) (a : Answer) → IsReached s → ((new : NewMode) → e ≡ event.Request (SetMode new) → ⊥) → Step s e now seed a t → t.modes ≡ s.modes
+pub modes_stay : (s t : State) (e : Event) (now : ℕ) (seed : Seed) (a : Answer) → IsReached s → ((new : NewMode) → e ≡ Event.Request (SetMode new) → ⊥) → Step s e now seed a t → t.modes ≡ s.modes
 modes_stay s t e now seed a reaches other step =
     let grants = (reached reaches.0 s reaches.1).grants in
     ap (λ (w : State). w.modes) step.state ∙ stay s step.before e now seed a step.changes grants.jobs_rise grants.rise other step.happens

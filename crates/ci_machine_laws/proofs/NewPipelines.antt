@@ -1,17 +1,11 @@
 -- A new pipeline in the state that has it: its jobs, and their facts.
-use Rattle.std.specs.Prelude.{◌≡◌, ℕ, ◌+◌, ◌-◌, ◌<◌, ◌≤◌, Bool, ◌==◌, List, [], ◌∷◌, ◌++◌, length, map, filter, replicate, option_map, None}
+use Rattle.std.proofs.Common.{◌≡◌, ℕ, ◌+◌, ◌-◌, ◌<◌, ◌≤◌, Bool, ◌==◌, List, [], ◌∷◌, ◌++◌, length, map, filter, replicate, option_map, None, refl, ap, ◌∙◌, inl, inr, arith, eq-eqb}
+use Rattle.std.proofs.Common.{ne_eqb}
 use Rattle.std.specs.List.{last_or}
-use Rattle.std.proofs.Common.{refl, ap, ◌∙◌, inl, inr, arith, eq-eqb, ne_eqb}
 use Rattle.std.proofs.lemmas.List.Elements.{filter-append}
-use Rattle.ci_graph_layout.specs.Inclusion.{Given}
-use Rattle.ci_board.specs.declared.facts.Facts.{Facts}
-use Rattle.ci_board.specs.Rows.{no_facts}
-use Rattle.ci_machine.specs.declared.records.Attempt.{Attempt}
-use Rattle.ci_machine.specs.declared.records.Job.{Job}
-use Rattle.ci_machine.specs.declared.request.NewPipeline.{NewPipeline}
-use Rattle.ci_machine.specs.State.{State, applied}
-use Rattle.ci_machine.specs.Statuses.{jobs_of, attempts_of, facts_in, facts_of}
-use Rattle.ci_machine_steps.specs.Pipelines.{Layout, Creation, creation, creation_changes}
+use Rattle.ci_graph_layout.specs.Prelude.{Given}
+use Rattle.ci_machine_steps.specs.Prelude.{Facts, no_facts, Attempt, Job, NewPipeline, State, applied, jobs_of, attempts_of, facts_in, facts_of, Layout, Creation, creation}
+use Rattle.ci_machine_steps.specs.Prelude.{creation_changes}
 use Rattle.ci_machine.proofs.Keyed.{Has, filter_none}
 use Rattle.ci_machine.proofs.Filters.{filter_all}
 use Rattle.ci_machine_steps.proofs.Created.{created_state, after_creation, IsNew, new_are, jobs_behind}

@@ -1,32 +1,12 @@
 -- The pipelines that are listed of a project are its newest.
-use Rattle.std.specs.Prelude.{◌≡◌, ◌⊎◌, ◌<◌, ℕ, zero, suc, ◌+◌, Bool, ◌==◌, List, [], ◌∷◌, ◌++◌, length, map, filter, take, reverse, All, Contains, None, Result, Ok, Err}
+use Rattle.std.proofs.Common.{◌≡◌, ◌⊎◌, ◌<◌, ℕ, zero, suc, ◌+◌, Bool, ◌==◌, List, [], ◌∷◌, ◌++◌, length, map, filter, take, reverse, All, Contains, None, Result, Ok, Err, nat_cmp}
+use Rattle.std.proofs.Common.{is_lt, Less, refl, sym, ap, subst, ◌∙◌, inl, inr, ⊎_elim, arith, eqb-true, eq-eqb}
 use Rattle.std.specs.List.{AllByRecursion}
 use Rattle.std.specs.List.Sorted.{IsStrictlySortedBy}
-use Rattle.std.specs.Ordering.{nat_cmp, is_lt}
-use Rattle.std.specs.declared.cmp.Ordering.TheVariants.{Less}
-use Rattle.std.proofs.Common.{refl, sym, ap, subst, ◌∙◌, inl, inr, ⊎_elim, arith, eqb-true, eq-eqb}
 use Rattle.std.proofs.lemmas.Grind.{reverse_onto}
-use Rattle.ci_machine.specs.declared.limits.TheConstants.{LISTED_PIPELINES}
-use Rattle.ci_machine.specs.declared.records.Pipeline.{Pipeline}
-use Rattle.ci_machine.specs.declared.records.Project.{Project}
-use Rattle.ci_machine.specs.declared.records.BoardRow.{BoardRow}
-use Rattle.ci_machine.specs.declared.request.Event.TheVariants as event
-use Rattle.ci_machine.specs.declared.request.Request.TheVariants.{Read}
-use Rattle.ci_machine.specs.declared.request.ReadQuery.{ReadQuery}
-use Rattle.ci_machine.specs.declared.request.Subject.TheVariants as subject
-use Rattle.ci_machine.specs.declared.request.Seed.{Seed}
-use Rattle.ci_machine.specs.declared.reply.Code.{Code}
-use Rattle.ci_machine.specs.declared.reply.Reply.{Reply}
-use Rattle.ci_machine.specs.declared.reply.Answer.{Answer}
-use Rattle.ci_machine.specs.declared.reply.Answer.TheVariants as answer
-use Rattle.ci_machine.specs.declared.change.RowChange.{RowChange}
-use Rattle.ci_machine.specs.State.{State, applied}
-use Rattle.ci_machine.specs.Statuses.{AreBoard}
+use Rattle.ci_machine_steps.specs.Prelude.{LISTED_PIPELINES, Pipeline, Project, BoardRow, Event, Read, ReadQuery, Subject, Seed, Code, Reply, Answer, RowChange, State, applied}
+use Rattle.ci_machine_steps.specs.Prelude.{AreBoard, Plan, listed_pipelines, read, Step, Happens, IsReached}
 use Rattle.ci_machine.proofs.Keyed.{Has, Rising, rising_from, rising_filter, has_filter, filter_has, All-from_has, contains_from_has, less}
-use Rattle.ci_machine_steps.specs.Plans.{Plan}
-use Rattle.ci_machine_steps.specs.Reads.{listed_pipelines, read}
-use Rattle.ci_machine_steps.specs.Step.{Step, Happens}
-use Rattle.ci_machine_steps.specs.History.{IsReached}
 use Rattle.ci_machine_steps.proofs.Behind.{nat_less, in_either, has_left, has_right}
 use Rattle.ci_machine_steps.proofs.Sound.{rising_from_ascend}
 use Rattle.ci_machine_laws.specs.Reads.{AreNewest, TellsNewest}
@@ -43,10 +23,6 @@ module _ {A : Type 0} (id : A → ℕ) where
   -- each number is greater than x's
   abbrev Above : A → List A → Type 0
   Above x ys = (y : A) → Has y ys → id x < id y
-
-  above_first : (y : A) (xs : List A) → ((x : A) → Has x xs → id x < id y) → AllByRecursion (λ n. nat_cmp n (id y) ≡ Less) (map id xs)
-  above_first y [] h = tt
-  above_first y (x ∷ xs) h = (nat_less (id x) (id y) (h x (inl refl)), above_first y xs (λ z k. h z (inr k)))
 
   falls_last : (x : A) (ys : List A) → Falls ys → Above x ys → Falls (ys ++ x ∷ [])
   unfolding IsStrictlySortedBy
@@ -148,7 +124,7 @@ module _ (s : State) (board : List BoardRow) (are : AreBoard s board) (rise : Ri
   abbrev Tells : Plan → Type 0
   Tells plan = plan.0.code ≡ None → TellsNewest s named plan.0
 
-  tells : (r : Result Project Code) → Asked s named r → Tells (read s board r subject.Pipelines)
+  tells : (r : Result Project Code) → Asked s named r → Tells (read s board r Subject.Pipelines)
   tells (Err code) asked none = absurd (cc)
   tells (Ok p) asked none = record {
     board = board;
@@ -158,22 +134,22 @@ module _ (s : State) (board : List BoardRow) (are : AreBoard s board) (rise : Ri
     told = refl;
   }
 
-pub newest_told : (s t : State) (query : ReadQuery) (now : ℕ) (seed : Seed) (reply : Reply) → IsReached s → query.subject ≡ subject.Pipelines
-    → Step s (event.Request (Read query)) now seed (answer.Reply reply) t → reply.code ≡ None → TellsNewest s query.project reply
+pub newest_told : (s t : State) (query : ReadQuery) (now : ℕ) (seed : Seed) (reply : Reply) → IsReached s → query.subject ≡ Subject.Pipelines
+    → Step s (Event.Request (Read query)) now seed (Answer.Reply reply) t → reply.code ≡ None → TellsNewest s query.project reply
 newest_told s t query now seed reply reaches is step none =
     let r = of_asked s query.token query.project in
     let rise = rising_from_ascend (λ (p : Pipeline). p.id) s.pipelines (sound_reached s reaches).pipelines_ascend in
     let P : Plan → Type 0 = λ plan. plan.0.code ≡ None → TellsNewest s query.project plan.0 in
-    let does : (reply, step.changes) ≡ read s step.before r subject.Pipelines = step.happens ∙ ap (λ w. read s step.before r w) is in
+    let does : (reply, step.changes) ≡ read s step.before r Subject.Pipelines = step.happens ∙ ap (λ w. read s step.before r w) is in
     subst P (sym does) (tells s step.before step.are_before rise query.project r (is_asked s query.token query.project)) none
 
 -- ---- a read changes nothing
 
-no_changes : (s : State) (board : List BoardRow) (query : ReadQuery) (now : ℕ) (seed : Seed) (a : Answer) (changes : List RowChange) → Happens s board (event.Request (Read query)) now seed a changes → changes ≡ []
-no_changes s board query now seed (answer.Reply reply) changes is =
+no_changes : (s : State) (board : List BoardRow) (query : ReadQuery) (now : ℕ) (seed : Seed) (a : Answer) (changes : List RowChange) → Happens s board (Event.Request (Read query)) now seed a changes → changes ≡ []
+no_changes s board query now seed (Answer.Reply reply) changes is =
     let P : Plan → Type 0 = λ plan. plan.1 ≡ [] in
     subst P (sym is) (of_read P (λ c m. refl) (λ body. refl) s board query)
-no_changes s board query now seed (answer.Swept swept) changes is = absurd is
+no_changes s board query now seed (Answer.Swept swept) changes is = absurd is
 
-pub read_keeps : (s t : State) (query : ReadQuery) (now : ℕ) (seed : Seed) (a : Answer) → Step s (event.Request (Read query)) now seed a t → t ≡ s
+pub read_keeps : (s t : State) (query : ReadQuery) (now : ℕ) (seed : Seed) (a : Answer) → Step s (Event.Request (Read query)) now seed a t → t ≡ s
 read_keeps s t query now seed a step = step.state ∙ ap (λ cs. applied cs s) (no_changes s step.before query now seed a step.changes step.happens)

@@ -1,41 +1,15 @@
 -- Where a runner is told that there is no job, none of the pending ones is one that it may be given.
-use Rattle.std.specs.Prelude.{◌≡◌, ◌⊎◌, ℕ, Bool, true, false, not, ◌==◌, ◌&&◌, ◌||◌, nat_lt, List, [], ◌∷◌, All, Contains, Option, Some, None, option_map}
+use Rattle.std.proofs.Common.{◌≡◌, ◌⊎◌, ℕ, Bool, true, false, not, ◌==◌, ◌&&◌, ◌||◌, nat_lt, List, [], ◌∷◌, All, Contains, Option, Some, None, option_map, refl, sym, ap, subst}
+use Rattle.std.proofs.Common.{◌∙◌, inl, inr, ⊎_elim, eqb-true, eq-eqb, ltb-true, lt-ltb}
 use Rattle.std.specs.List.{list_any, list_all}
 use Rattle.std.specs.Str.{bytes_eq}
-use Rattle.std.proofs.Common.{refl, sym, ap, subst, ◌∙◌, inl, inr, ⊎_elim, eqb-true, eq-eqb, ltb-true, lt-ltb}
 use Rattle.std.proofs.lemmas.Bool.{cond_both, both_ways, false≢true, and_parts, and_from, and_cases, or_left, or_right}
 use Rattle.std.proofs.lemmas.Slice.Eq.{bytes_eq-Decides}
-use Rattle.ci_values.specs.declared.limits.TheConstants.{MAX_NUMBER}
-use Rattle.ci_board.specs.declared.facts.Status.{Status}
-use Rattle.ci_board.specs.declared.facts.Status.TheVariants as status
-use Rattle.ci_machine.specs.declared.records.BoardRow.{BoardRow}
-use Rattle.ci_machine.specs.declared.records.GroupOrder.{GroupOrder}
-use Rattle.ci_machine.specs.declared.records.GroupOrder.TheVariants.{OldestFirst, NewestReadyFirst}
-use Rattle.ci_machine.specs.declared.records.Job.{Job}
-use Rattle.ci_machine.specs.declared.records.JobVariable.{JobVariable}
-use Rattle.ci_machine.specs.declared.records.QueuedJob.{QueuedJob}
-use Rattle.ci_machine.specs.declared.records.Runner.{Runner}
-use Rattle.ci_machine.specs.declared.records.WaitingJob.{WaitingJob}
-use Rattle.ci_machine.specs.declared.request.Event.TheVariants as event
-use Rattle.ci_machine.specs.declared.request.Request.TheVariants.{AskJob}
-use Rattle.ci_machine.specs.declared.request.Seed.{Seed}
-use Rattle.ci_machine.specs.declared.reply.Answer.TheVariants as answer
-use Rattle.ci_machine.specs.declared.reply.Code.TheVariants.{M15}
-use Rattle.ci_machine.specs.declared.reply.HttpStatus.TheVariants.{NoContent}
-use Rattle.ci_machine.specs.declared.reply.Reply.{Reply}
-use Rattle.ci_machine.specs.State.{State}
-use Rattle.ci_machine.specs.Statuses.{status_for, AreBoard}
-use Rattle.ci_machine.specs.Leases.{is_live}
-use Rattle.ci_machine.specs.Eligible.{is_open_to, has_tag, takes, may_run, holds, claims_group, is_free, resource_free, is_eligible, chosen}
-use Rattle.ci_machine.specs.Groups.{order_of, goes_before_in, claims_on, is_in_line, is_behind}
-use Rattle.ci_machine.specs.Holders.{queued_at, group_held, held_by, held_of, holders}
-use Rattle.ci_machine.specs.Waiting.{waits_for, waits_as, waiting, groups_in}
-use Rattle.ci_machine.specs.Lookups.{project_or_none, live_attempts}
-use Rattle.ci_machine_steps.specs.Plans.{Plan, refused}
-use Rattle.ci_machine_steps.specs.Grants.{granted, ask_job}
-use Rattle.ci_machine_steps.specs.Step.{Step, runner_with, is_pending, pending_jobs, queued, queue, offer, offered_variables}
-use Rattle.ci_machine_steps.specs.History.{IsReached}
-use Rattle.ci_machine_steps.specs.Laws.{IsLeastEligible}
+use Rattle.ci_machine_steps.specs.Prelude.{MAX_NUMBER, Status, BoardRow, GroupOrder, OldestFirst, NewestReadyFirst, Job, JobVariable, QueuedJob, Runner, WaitingJob, Event, AskJob}
+use Rattle.ci_machine_steps.specs.Prelude.{Seed, Answer, M15, NoContent, Reply, State, status_for, AreBoard, is_live, is_open_to, has_tag, takes, may_run, holds, claims_group}
+use Rattle.ci_machine_steps.specs.Prelude.{is_free, resource_free, is_eligible, chosen, order_of, goes_before_in, claims_on, is_in_line, is_behind, queued_at, group_held, held_by}
+use Rattle.ci_machine_steps.specs.Prelude.{held_of, holders, waits_for, waits_as, waiting, groups_in, project_or_none, live_attempts, Plan, refused, granted, ask_job, Step}
+use Rattle.ci_machine_steps.specs.Prelude.{runner_with, is_pending, pending_jobs, queued, queue, offer, offered_variables, IsReached, IsLeastEligible}
 use Rattle.ci_machine_laws.specs.NoJob.{IsOfProject, HasGroup, MustWait, IsNotFor, HasNoJob}
 use Rattle.ci_machine_laws.specs.NoJob.MustWait.{held, older_first, newer_first}
 use Rattle.ci_machine_laws.specs.NoJob.IsNotFor.{paused, of_other, untagged, lacks_tag, waits}
@@ -136,7 +110,7 @@ module _ (s : State) (board : List BoardRow) (rise : Rising (λ (j : Job). j.id)
       held j.0 a (has_group j.0 j.1.0 project group its.0 its.1) (contains_from_has a s.attempts live.0) (sym j.1.1) live.1
 
   first_in : (project : ℕ) (group : List ℕ) (pipeline : ℕ) (other : Job) → HasGroup s project group other → (order : Option GroupOrder) → order_of s.modes project group ≡ order → (pending : Bool)
-      → (status_for board other.id ≡ status.Created) ⊎ (status_for board other.id ≡ status.Pending) → (pending ≡ true → status_for board other.id ≡ status.Pending)
+      → (status_for board other.id ≡ Status.Created) ⊎ (status_for board other.id ≡ Status.Pending) → (pending ≡ true → status_for board other.id ≡ Status.Pending)
       → goes_before_in order pipeline (record { project = project; group = group; pipeline = other.pipeline; pending = pending }) ≡ true → MustWait s board project group pipeline
   first_in project group pipeline other its None order pending some ready e = absurd (false≢true e)
   first_in project group pipeline other its (Some OldestFirst) order pending some ready e = older_first other its order (ltb-true other.pipeline pipeline e) some
@@ -145,18 +119,18 @@ module _ (s : State) (board : List BoardRow) (rise : Rising (λ (j : Job). j.id)
 
   by_status : (project : ℕ) (group : List ℕ) (pipeline : ℕ) (other : Job) → Has other s.jobs → (st : Status) → status_for board other.id ≡ st
       → list_any (ahead (order_of s.modes project group) pipeline project group) (waits_as (queued s other) st) ≡ true → MustWait s board project group pipeline
-  by_status project group pipeline other k status.Created is e =
+  by_status project group pipeline other k Status.Created is e =
       let w = in_wait (queued s other).project other.pipeline false other.options.resource_group (order_of s.modes project group) pipeline project group e in
       first_in project group pipeline other (has_group other k project group w.0 w.1) (order_of s.modes project group) refl false (inl is) (λ t. absurd (false≢true t)) w.2
-  by_status project group pipeline other k status.Pending is e =
+  by_status project group pipeline other k Status.Pending is e =
       let w = in_wait (queued s other).project other.pipeline true other.options.resource_group (order_of s.modes project group) pipeline project group e in
       first_in project group pipeline other (has_group other k project group w.0 w.1) (order_of s.modes project group) refl true (inr is) (λ t. is) w.2
-  by_status project group pipeline other k status.Running is e = absurd (false≢true e)
-  by_status project group pipeline other k status.Success is e = absurd (false≢true e)
-  by_status project group pipeline other k status.Failed is e = absurd (false≢true e)
-  by_status project group pipeline other k status.Canceled is e = absurd (false≢true e)
-  by_status project group pipeline other k status.Skipped is e = absurd (false≢true e)
-  by_status project group pipeline other k status.Manual is e = absurd (false≢true e)
+  by_status project group pipeline other k Status.Running is e = absurd (false≢true e)
+  by_status project group pipeline other k Status.Success is e = absurd (false≢true e)
+  by_status project group pipeline other k Status.Failed is e = absurd (false≢true e)
+  by_status project group pipeline other k Status.Canceled is e = absurd (false≢true e)
+  by_status project group pipeline other k Status.Skipped is e = absurd (false≢true e)
+  by_status project group pipeline other k Status.Manual is e = absurd (false≢true e)
 
   abbrev line_of : Job → List WaitingJob
   line_of j = waits_as (queued s j) (status_for board j.id)
@@ -201,12 +175,12 @@ module _ (s : State) (board : List BoardRow) (rise : Rising (λ (j : Job). j.id)
       let k = has_from_contains other s.jobs its.is_job in
       behind_one project group pipeline other k
       (⊎_elim
-      (λ is. in_line_as project group pipeline other its status.Created false (λ q. refl) is OldestFirst mode (lt-ltb other.pipeline pipeline older))
-      (λ is. in_line_as project group pipeline other its status.Pending true (λ q. refl) is OldestFirst mode (lt-ltb other.pipeline pipeline older))
+      (λ is. in_line_as project group pipeline other its Status.Created false (λ q. refl) is OldestFirst mode (lt-ltb other.pipeline pipeline older))
+      (λ is. in_line_as project group pipeline other its Status.Pending true (λ q. refl) is OldestFirst mode (lt-ltb other.pipeline pipeline older))
       some)
   claimed project group pipeline (newer_first other its mode newer is) =
       behind_one project group pipeline other (has_from_contains other s.jobs its.is_job)
-      (in_line_as project group pipeline other its status.Pending true (λ q. refl) is NewestReadyFirst mode (and_from (nat_lt pipeline other.pipeline) true (lt-ltb pipeline other.pipeline newer) refl))
+      (in_line_as project group pipeline other its Status.Pending true (λ q. refl) is NewestReadyFirst mode (and_from (nat_lt pipeline other.pipeline) true (lt-ltb pipeline other.pipeline newer) refl))
 
   -- ---- a job and a runner
 
@@ -280,7 +254,7 @@ nothing_offered (Some r) None variables next now seed e = ((r, refl), refl)
 nothing_offered (Some r) (Some q) variables next now seed e =
     cond_both (nat_lt MAX_NUMBER next) (refused M15) (granted r q variables next now seed) (λ (f : Plan). f.0.status ≡ NoContent → ((w : Runner) × (Some r ≡ Some w)) × (Some q ≡ None)) (λ _ n. absurd (cc)) (λ _ n. absurd (cc)) e
 
-pub no_job : OneAssignment → (s t : State) (token : List ℕ) (now : ℕ) (seed : Seed) (reply : Reply) → IsReached s → Step s (event.Request (AskJob token)) now seed (answer.Reply reply) t → reply.status ≡ NoContent → HasNoJob s token
+pub no_job : OneAssignment → (s t : State) (token : List ℕ) (now : ℕ) (seed : Seed) (reply : Reply) → IsReached s → Step s (Event.Request (AskJob token)) now seed (Answer.Reply reply) t → reply.status ≡ NoContent → HasNoJob s token
 no_job law s t token now seed reply is step none =
     let one = one_board law is.0 s is.1 in
     let board = step.before in

@@ -1,28 +1,11 @@
 -- Every state that a history leads to is sound.
-use Rattle.std.specs.Prelude.{◌≡◌, ◌<◌, ◌≤◌, true, List, [], ◌∷◌, length, All, Some}
+use Rattle.std.proofs.Common.{◌≡◌, ◌<◌, ◌≤◌, true, List, [], ◌∷◌, length, All, Some, Ordering, Less, refl, sym, subst, inl, inr, arith}
 use Rattle.std.specs.List.{AllByRecursion}
 use Rattle.std.specs.List.Sorted.{IsStrictlySortedBy}
-use Rattle.std.specs.declared.cmp.Ordering.{Ordering}
-use Rattle.std.specs.declared.cmp.Ordering.TheVariants.{Less}
 use Rattle.std.specs.Cmp.{IsTotalOrder}
 use Rattle.std.proofs.lemmas.Cmp.{nat_cmp_total, on_total, then_total}
-use Rattle.std.proofs.Common.{refl, sym, subst, inl, inr, arith}
-use Rattle.ci_machine.specs.declared.records.Pipeline.{Pipeline}
-use Rattle.ci_machine.specs.declared.records.Job.{Job}
-use Rattle.ci_machine.specs.declared.records.Need.{Need}
-use Rattle.ci_machine.specs.declared.records.Attempt.{Attempt}
-use Rattle.ci_machine.specs.declared.change.RowChange.{RowChange}
-use Rattle.ci_machine.specs.declared.change.RowChange.TheVariants.{Put, Append, Remove}
-use Rattle.ci_machine.specs.declared.change.Record.{Record}
-use Rattle.ci_machine.specs.declared.change.Record.TheVariants as row
-use Rattle.ci_machine.specs.declared.change.Key.{Key}
-use Rattle.ci_machine.specs.declared.change.Key.TheVariants as key
-use Rattle.ci_machine.specs.State.{State, need_cmp, with_record, without_record, changed, applied}
-use Rattle.ci_machine.specs.Statuses.{attempts_of}
-use Rattle.ci_machine.specs.Leases.{is_live}
-use Rattle.ci_machine_steps.specs.Step.{last_attempt}
-use Rattle.ci_machine_steps.specs.History.{Past, Leads, IsReached}
-use Rattle.ci_machine_steps.specs.Sound.{IsSound}
+use Rattle.ci_machine_steps.specs.Prelude.{Pipeline, Job, Need, Attempt, RowChange, Put, Append, Remove, Record, Key, State, need_cmp, with_record, without_record, changed}
+use Rattle.ci_machine_steps.specs.Prelude.{applied, attempts_of, is_live, last_attempt, Past, Leads, IsReached, IsSound}
 use Rattle.ci_machine.proofs.Keyed.{Has, All-from_has}
 use Rattle.ci_machine_laws.proofs.Grants.{live_last}
 use Rattle.ci_machine_laws.proofs.Reached.{reached}
@@ -36,30 +19,30 @@ need_total : IsTotalOrder need_cmp
 need_total = then_total (on_total (λ (w : Need). w.job) nat_cmp_total) (on_total (λ (w : Need). w.pred) nat_cmp_total)
 
 recorded : (r : Record) (s : State) → Ordered need_cmp s.needs → Ordered need_cmp (with_record r s).needs
-recorded (row.Project p) s o = o
-recorded (row.Variable v) s o = o
-recorded (row.Runner p) s o = o
-recorded (row.Pipeline p) s o = o
-recorded (row.Job p) s o = o
-recorded (row.JobVariable v) s o = o
-recorded (row.Need w) s o = put_ordered need_cmp need_total w s.needs o
-recorded (row.Attempt p) s o = o
-recorded (row.Mode m) s o = o
-recorded (row.Next c n) s o = o
+recorded (Record.Project p) s o = o
+recorded (Record.Variable v) s o = o
+recorded (Record.Runner p) s o = o
+recorded (Record.Pipeline p) s o = o
+recorded (Record.Job p) s o = o
+recorded (Record.JobVariable v) s o = o
+recorded (Record.Need w) s o = put_ordered need_cmp need_total w s.needs o
+recorded (Record.Attempt p) s o = o
+recorded (Record.Mode m) s o = o
+recorded (Record.Next c n) s o = o
 
 removed : (k : Key) (s : State) → Ordered need_cmp s.needs → Ordered need_cmp (without_record k s).needs
-removed (key.Project n) s o = o
-removed (key.Variable n name) s o = o
-removed (key.Runner n) s o = o
-removed (key.Pipeline n) s o = o
-removed (key.Job n) s o = o
-removed (key.JobVariable n name) s o = o
-removed (key.JobVariables n) s o = o
-removed (key.Need n pred) s o = filter_ordered need_cmp _ s.needs o
-removed (key.Needs n) s o = filter_ordered need_cmp _ s.needs o
-removed (key.Attempt n) s o = o
-removed (key.Mode n name) s o = o
-removed (key.Trace n) s o = o
+removed (Key.Project n) s o = o
+removed (Key.Variable n name) s o = o
+removed (Key.Runner n) s o = o
+removed (Key.Pipeline n) s o = o
+removed (Key.Job n) s o = o
+removed (Key.JobVariable n name) s o = o
+removed (Key.JobVariables n) s o = o
+removed (Key.Need n pred) s o = filter_ordered need_cmp _ s.needs o
+removed (Key.Needs n) s o = filter_ordered need_cmp _ s.needs o
+removed (Key.Attempt n) s o = o
+removed (Key.Mode n name) s o = o
+removed (Key.Trace n) s o = o
 
 one_change : (c : RowChange) (s : State) → Ordered need_cmp s.needs → Ordered need_cmp (changed c s).needs
 one_change (Put r) s o = recorded r s o

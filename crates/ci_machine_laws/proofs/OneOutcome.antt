@@ -1,43 +1,15 @@
 -- An event has one outcome, but that a pattern of the CI file that it reads may be refused: each plan, and then each step.
-use Rattle.std.specs.Prelude.{◌≡◌, ◌⊎◌, ℕ, Bool, true, false, not, nat_lt, ◌==◌, List, [], ◌∷◌, length, Option, Some, None, option_and_then, Result, Ok, Err}
-use Rattle.std.proofs.Common.{refl, sym, ap, subst, ◌∙◌, inl, inr, ⊎_elim}
+use Rattle.std.proofs.Common.{◌≡◌, ◌⊎◌, ℕ, Bool, true, false, not, nat_lt, ◌==◌, List, [], ◌∷◌, length, Option, Some, None, option_and_then, Result, Ok, Err, refl, sym, ap, subst}
+use Rattle.std.proofs.Common.{◌∙◌, inl, inr, ⊎_elim}
 use Rattle.std.proofs.lemmas.Bool.{cond_both}
-use Rattle.ci_machine.specs.declared.records.BoardRow.{BoardRow}
-use Rattle.ci_machine.specs.declared.records.Job.{Job}
-use Rattle.ci_machine.specs.declared.records.Pipeline.{Pipeline}
-use Rattle.ci_machine.specs.declared.change.RowChange.{RowChange}
-use Rattle.ci_machine.specs.declared.request.Event.{Event}
-use Rattle.ci_machine.specs.declared.request.Event.TheVariants as event
-use Rattle.ci_machine.specs.declared.request.Request.{Request}
-use Rattle.ci_machine.specs.declared.request.Request.TheVariants.{AddProject, AddRunner, PauseRunner, SetFile, SetVariable, DeleteVariable, SetMode, ShowMode, CreatePipeline, ShowPipeline, AskJob, UpdateJob, AppendTrace, ShowJob, ShowTrace, Read, Play, CancelJob, CancelPipeline, RetryJob, PruneOne}
-use Rattle.ci_machine.specs.declared.request.Seed.{Seed}
-use Rattle.ci_machine.specs.declared.reply.Answer.{Answer}
-use Rattle.ci_machine.specs.declared.reply.Answer.TheVariants as answer
-use Rattle.ci_machine.specs.declared.reply.Code.{Code}
-use Rattle.ci_machine.specs.declared.reply.Code.TheVariants.{M2, M10, M11, M12}
-use Rattle.ci_machine.specs.declared.reply.Swept.{Swept}
-use Rattle.ci_machine.specs.State.{State, applied}
-use Rattle.ci_machine.specs.Statuses.{jobs_of, attempts_of, facts_of, rows_of, status_for, AreBoard}
-use Rattle.ci_machine.specs.Waiting.{claims_in}
-use Rattle.ci_machine.specs.Lookups.{queued}
-use Rattle.ci_machine_steps.specs.Plans.{Plan, faulted, asked_project}
-use Rattle.ci_machine_steps.specs.Files.{set_file, SetsFile}
-use Rattle.ci_machine_steps.specs.Pipelines.{have_names, file_or_none, file_for, may_create, given_by, Layout, lacks_numbers, creation, creation_changes, pipeline_created, MakesUnless, Makes, Creates}
-use Rattle.ci_graph_layout.specs.Inclusion.{Given}
-use Rattle.ci_config.specs.declared.limits.TheConstants.{MAX_VARIABLES}
-use Rattle.ci_values.specs.Names.{is_name}
-use Rattle.ci_machine.specs.declared.records.Project.{Project}
-use Rattle.ci_machine.specs.declared.request.NewPipeline.{NewPipeline}
-use Rattle.ci_machine.specs.declared.reply.Detail.{Detail}
-use Rattle.ci_machine.specs.declared.reply.Detail.TheVariants as detail
-use Rattle.ci_machine.specs.declared.reply.FaultCode.TheVariants.{K}
-use Rattle.ci_machine_steps.specs.Acts.{permitted, ActsOn}
-use Rattle.ci_machine_steps.specs.Cancels.{is_cancellable, cancellable_jobs, cancel, CancelsSome, CancelsPipeline}
-use Rattle.ci_machine_steps.specs.Plays.{is_playable, play}
-use Rattle.ci_machine_steps.specs.Retries.{is_retryable, retry}
-use Rattle.ci_machine_steps.specs.Shows.{job_shown, pipeline_shown}
-use Rattle.ci_machine_steps.specs.Step.{Does, Happens, Step, found_job, found_pipeline, project_with, project_variables}
-use Rattle.ci_machine_steps.specs.History.{Past, IsReached}
+use Rattle.ci_machine_steps.specs.Prelude.{BoardRow, Job, Pipeline, RowChange, Event, Request, AddProject, AddRunner, PauseRunner, SetFile, SetVariable, DeleteVariable, SetMode}
+use Rattle.ci_machine_steps.specs.Prelude.{ShowMode, CreatePipeline, ShowPipeline, AskJob, UpdateJob, AppendTrace, ShowJob, ShowTrace, Read, Play, CancelJob, CancelPipeline}
+use Rattle.ci_machine_steps.specs.Prelude.{RetryJob, PruneOne, Seed, Answer, Code, M2, M10, M11, M12, Swept, State, applied, jobs_of, attempts_of, facts_of, rows_of, status_for}
+use Rattle.ci_machine_steps.specs.Prelude.{AreBoard, claims_in, queued, Plan, faulted, asked_project, set_file, SetsFile, have_names, file_or_none, file_for, may_create, given_by}
+use Rattle.ci_machine_steps.specs.Prelude.{Layout, lacks_numbers, creation, creation_changes, pipeline_created, MakesUnless, Makes, Creates, is_name, Project, NewPipeline, Detail}
+use Rattle.ci_machine_steps.specs.Prelude.{K, permitted, ActsOn, is_cancellable, cancellable_jobs, cancel, CancelsSome, CancelsPipeline, is_playable, play, is_retryable, retry}
+use Rattle.ci_machine_steps.specs.Prelude.{job_shown, pipeline_shown, Does, Happens, Step, found_job, found_pipeline, project_with, project_variables, Past, IsReached}
+use Rattle.ci_graph_layout.specs.Prelude.{Given, MAX_VARIABLES}
 use Rattle.ci_machine_laws.specs.OneOutcome.{text_read, HoldsPattern, RefusesPattern, OneOutcome}
 use Rattle.ci_machine_laws.proofs.OneBoard.{OneAssignment, one_board}
 use Rattle.ci_machine_laws.proofs.Readings.{Readings, pattern_refused, read_once, laid_once}
@@ -62,9 +34,9 @@ has_file (Some own) text e = let same : own ≡ text = cc in ap (λ (t : List �
 
 its_file : (project : Project) (new : NewPipeline) (text : List ℕ) → file_for project new ≡ Ok text → project.file ≡ Some text
 its_file project new text e =
-    cond_both (not (is_name new.git_ref)) (Err (faulted (detail.Code (K 16)))) _ (λ (r : Result (List ℕ) Plan). r ≡ Ok text → project.file ≡ Some text) (λ _ f. absurd (cc)) (λ _.
-    cond_both (nat_lt MAX_VARIABLES (length new.variables)) (Err (faulted (detail.Code (K 11)))) _ (λ (r : Result (List ℕ) Plan). r ≡ Ok text → project.file ≡ Some text) (λ _ f. absurd (cc)) (λ _.
-    cond_both (not (have_names new.variables)) (Err (faulted (detail.Code (K 12)))) (file_or_none project.file) (λ (r : Result (List ℕ) Plan). r ≡ Ok text → project.file ≡ Some text) (λ _ f. absurd (cc)) (λ _ f. has_file project.file text f)))
+    cond_both (not (is_name new.git_ref)) (Err (faulted (Detail.Code (K 16)))) _ (λ (r : Result (List ℕ) Plan). r ≡ Ok text → project.file ≡ Some text) (λ _ f. absurd (cc)) (λ _.
+    cond_both (nat_lt MAX_VARIABLES (length new.variables)) (Err (faulted (Detail.Code (K 11)))) _ (λ (r : Result (List ℕ) Plan). r ≡ Ok text → project.file ≡ Some text) (λ _ f. absurd (cc)) (λ _.
+    cond_both (not (have_names new.variables)) (Err (faulted (Detail.Code (K 12)))) (file_or_none project.file) (λ (r : Result (List ℕ) Plan). r ≡ Ok text → project.file ≡ Some text) (λ _ f. absurd (cc)) (λ _ f. has_file project.file text f)))
     e
 
 file_asked : (o : Option Project) (named : ℕ) (new : NewPipeline) (text : List ℕ) → (r : Result Project Code) → asked_project o named ≡ r → may_create r new ≡ Ok text → option_and_then (λ (p : Project). p.file) o ≡ Some text
@@ -137,11 +109,11 @@ module _ (known : Readings) (s : State) (f g : Plan) (once : BoardOnce (applied 
   -- ---- of each request
 
   abbrev Refuses : Request → Plan → Type 0
-  Refuses r h = RefusesPattern s (event.Request r) (answer.Reply h.0)
+  Refuses r h = RefusesPattern s (Event.Request r) (Answer.Reply h.0)
 
-  refuses : (r : Request) (text : List ℕ) → text_read s (event.Request r) ≡ Some text → PatternIn text → Refuses r f ⊎ Refuses r g
+  refuses : (r : Request) (text : List ℕ) → text_read s (Event.Request r) ≡ Some text → PatternIn text → Refuses r f ⊎ Refuses r g
   refuses r text read w =
-      let one : (h : Plan) → h ≡ faulted pattern_refused → Refuses r h = λ h e. record { text = text; its_text = read; holds = w.0; answered = ap (λ (p : Plan). answer.Reply p.0) e } in
+      let one : (h : Plan) → h ≡ faulted pattern_refused → Refuses r h = λ h e. record { text = text; its_text = read; holds = w.0; answered = ap (λ (p : Plan). Answer.Reply p.0) e } in
       ⊎_elim (λ a. inl (one f a)) (λ b. inr (one g b)) w.1
 
   does_once : (board : List BoardRow) (r : Request) (now : ℕ) (seed : Seed) → Does s board r now seed f → Does s board r now seed g → (f ≡ g) ⊎ (Refuses r f ⊎ Refuses r g)
@@ -180,18 +152,18 @@ SameOr s e a cs b ds = ((b ≡ a) × (ds ≡ cs)) ⊎ (RefusesPattern s e a ⊎ 
 
 module _ (known : Readings) (s : State) (board : List BoardRow) where
   happens_once : (e : Event) (now : ℕ) (seed : Seed) (a b : Answer) (cs ds : List RowChange) → BoardOnce (applied cs s) → Happens s board e now seed a cs → Happens s board e now seed b ds → SameOr s e a cs b ds
-  happens_once (event.Request r) now seed (answer.Reply a) (answer.Reply b) cs ds once p q =
+  happens_once (Event.Request r) now seed (Answer.Reply a) (Answer.Reply b) cs ds once p q =
       ⊎_elim
-      (λ same. inl (ap (λ (f : Plan). answer.Reply f.0) (sym same), ap (λ (f : Plan). f.1) (sym same)))
+      (λ same. inl (ap (λ (f : Plan). Answer.Reply f.0) (sym same), ap (λ (f : Plan). f.1) (sym same)))
       (λ w. inr w)
       (does_once known s (a, cs) (b, ds) once board r now seed p q)
-  happens_once (event.Request r) now seed (answer.Reply a) (answer.Swept b) cs ds once p q = absurd q
-  happens_once (event.Request r) now seed (answer.Swept a) b cs ds once p q = absurd p
-  happens_once event.Sweep now seed (answer.Swept a) (answer.Swept b) cs ds once p q =
+  happens_once (Event.Request r) now seed (Answer.Reply a) (Answer.Swept b) cs ds once p q = absurd q
+  happens_once (Event.Request r) now seed (Answer.Swept a) b cs ds once p q = absurd p
+  happens_once Event.Sweep now seed (Answer.Swept a) (Answer.Swept b) cs ds once p q =
       let same = p ∙ sym q in
-      inl (ap (λ (f : Swept × List RowChange). answer.Swept f.0) (sym same), ap (λ (f : Swept × List RowChange). f.1) (sym same))
-  happens_once event.Sweep now seed (answer.Swept a) (answer.Reply b) cs ds once p q = absurd q
-  happens_once event.Sweep now seed (answer.Reply a) b cs ds once p q = absurd p
+      inl (ap (λ (f : Swept × List RowChange). Answer.Swept f.0) (sym same), ap (λ (f : Swept × List RowChange). f.1) (sym same))
+  happens_once Event.Sweep now seed (Answer.Swept a) (Answer.Reply b) cs ds once p q = absurd q
+  happens_once Event.Sweep now seed (Answer.Reply a) b cs ds once p q = absurd p
 
 pub one_outcome : Readings → OneAssignment → (s t u : State) (e : Event) (now : ℕ) (seed : Seed) (a b : Answer) → IsReached s → Step s e now seed a t → Step s e now seed b u → OneOutcome s e a t b u
 one_outcome known law s t u e now seed a b is first second =

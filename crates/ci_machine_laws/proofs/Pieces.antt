@@ -1,30 +1,12 @@
 -- What an accepted piece of a trace does.
-use Rattle.std.specs.Prelude.{◌≡◌, ℕ, ◌+◌, ◌≤◌, true, ◌==◌, nat_le, ◌++◌, length, if◌then◌else◌, Option, Some, None, option_map, Result, Ok, Err}
+use Rattle.std.proofs.Common.{◌≡◌, ℕ, ◌+◌, ◌≤◌, true, ◌==◌, nat_le, ◌++◌, length, if◌then◌else◌, Option, Some, None, option_map, Result, Ok, Err, refl, sym, ap, subst, ◌∙◌}
+use Rattle.std.proofs.Common.{eqb-true, leb-true}
 use Rattle.std.specs.Str.{bytes_eq}
-use Rattle.std.proofs.Common.{refl, sym, ap, subst, ◌∙◌, eqb-true, leb-true}
 use Rattle.std.proofs.lemmas.Bool.{cond_both, false≢true}
 use Rattle.std.proofs.lemmas.List.{length-append}
-use Rattle.ci_machine.specs.declared.records.Attempt.{Attempt}
-use Rattle.ci_machine.specs.declared.records.Trace.{Trace}
-use Rattle.ci_machine.specs.declared.lease.LeaseFault.{LeaseFault}
-use Rattle.ci_machine.specs.declared.lease.LeaseFault.TheVariants.{NotLive, LeaseOver}
-use Rattle.ci_machine.specs.declared.lease.PieceFault.{PieceFault}
-use Rattle.ci_machine.specs.declared.lease.PieceFault.TheVariants.{Unleased, WrongOffset, TraceFull}
-use Rattle.ci_machine.specs.declared.limits.TheConstants.{MAX_TRACE_BYTES}
-use Rattle.ci_machine.specs.declared.request.TracePart.{TracePart}
-use Rattle.ci_machine.specs.declared.request.Event.TheVariants as event
-use Rattle.ci_machine.specs.declared.request.Request.TheVariants.{AppendTrace}
-use Rattle.ci_machine.specs.declared.request.Seed.{Seed}
-use Rattle.ci_machine.specs.declared.reply.Answer.TheVariants as answer
-use Rattle.ci_machine.specs.declared.reply.HttpStatus.TheVariants.{Accepted}
-use Rattle.ci_machine.specs.declared.reply.Code.TheVariants.{M5}
-use Rattle.ci_machine.specs.declared.reply.Reply.{Reply}
-use Rattle.ci_machine.specs.State.{State, applied}
-use Rattle.ci_machine.specs.Leases.{renewed, size_after, if_leased, accepted}
-use Rattle.ci_machine_steps.specs.Plans.{Plan, refused}
-use Rattle.ci_machine_steps.specs.Traces.{appended, append_trace}
-use Rattle.ci_machine_steps.specs.Step.{Step, attempt_at, lease_of, trace_of}
-use Rattle.ci_machine_steps.specs.Laws.{is_accepted}
+use Rattle.ci_machine_steps.specs.Prelude.{Attempt, Trace, LeaseFault, NotLive, LeaseOver, PieceFault, Unleased, WrongOffset, TraceFull, MAX_TRACE_BYTES, TracePart, Event}
+use Rattle.ci_machine_steps.specs.Prelude.{AppendTrace, Seed, Answer, Accepted, M5, Reply, State, applied, renewed, size_after, if_leased, accepted, Plan, refused, appended}
+use Rattle.ci_machine_steps.specs.Prelude.{append_trace, Step, attempt_at, lease_of, trace_of, is_accepted}
 use Rattle.ci_machine.proofs.Keyed.{has_find}
 use Rattle.ci_machine_steps.proofs.Traces.{its_trace, other_trace}
 use Rattle.ci_machine_laws.specs.Pieces.{GoesBehind}
@@ -84,7 +66,7 @@ parts s part now (Some a) found =
     (λ _. appends s part now a its r (accepted_fits (renewed a limit now) size part.from (length part.bytes)))
     (λ _ is. absurd (false≢true is))
 
-pub goes_behind : (s t : State) (part : TracePart) (now : ℕ) (seed : Seed) (reply : Reply) → Step s (event.Request (AppendTrace part)) now seed (answer.Reply reply) t → reply.status ≡ Accepted → GoesBehind s t part reply
+pub goes_behind : (s t : State) (part : TracePart) (now : ℕ) (seed : Seed) (reply : Reply) → Step s (Event.Request (AppendTrace part)) now seed (Answer.Reply reply) t → reply.status ≡ Accepted → GoesBehind s t part reply
 goes_behind s t part now seed reply step is =
     let plan : Goes s part (reply, step.changes) = subst (Goes s part) (sym step.happens) (parts s part now (attempt_at s part.attempt) refl) in
     subst (λ w. GoesBehind s w part reply) (sym step.state) (plan (ap is_accepted is))

@@ -1,23 +1,10 @@
 -- Which pipeline a request to prune prunes, in a state whose pipelines stand in the order of their numbers.
-use Rattle.std.specs.Prelude.{◌≡◌, ◌<◌, ◌≤◌, ℕ, true, false, ◌&&◌, not, nat_lt, List, Option, Some, None}
-use Rattle.std.proofs.Common.{refl, sym, ap, subst, ◌∙◌, inl, inr, ⊎_elim, ltb-true, lt-ltb}
+use Rattle.std.proofs.Common.{◌≡◌, ◌<◌, ◌≤◌, ℕ, true, false, ◌&&◌, not, nat_lt, List, Option, Some, None, refl, sym, ap, subst, ◌∙◌, inl, inr, ⊎_elim, ltb-true, lt-ltb}
 use Rattle.std.proofs.lemmas.Bool.{and_parts, both_ways, cases_Bool}
-use Rattle.ci_machine.specs.declared.records.BoardRow.{BoardRow}
-use Rattle.ci_machine.specs.declared.records.Pipeline.{Pipeline}
-use Rattle.ci_machine.specs.declared.change.RowChange.{RowChange}
-use Rattle.ci_machine.specs.declared.request.Request.TheVariants.{AddProject, AddRunner, PauseRunner, SetFile, SetVariable, DeleteVariable, SetMode, ShowMode, CreatePipeline, ShowPipeline, AskJob, UpdateJob, AppendTrace, ShowJob, ShowTrace, Read, Play, CancelJob, CancelPipeline, RetryJob, PruneOne}
-use Rattle.ci_machine.specs.declared.request.Event.{Event}
-use Rattle.ci_machine.specs.declared.request.Event.TheVariants as event
-use Rattle.ci_machine.specs.declared.request.Seed.{Seed}
-use Rattle.ci_machine.specs.declared.reply.Answer.{Answer}
-use Rattle.ci_machine.specs.declared.reply.Answer.TheVariants as answer
-use Rattle.ci_machine.specs.State.{State}
-use Rattle.ci_machine.specs.Statuses.{AreBoard}
-use Rattle.ci_machine.specs.Indexes.{is_open_in}
-use Rattle.ci_machine_steps.specs.Plans.{Plan}
-use Rattle.ci_machine_steps.specs.Prunes.{is_prunable, prunable_in, prune}
-use Rattle.ci_machine_steps.specs.Step.{Happens, jobs_in}
-use Rattle.ci_machine_steps.specs.Laws.{IsLeastPrunable, NoneIsPrunable, IsPrunedBy}
+use Rattle.ci_machine_steps.specs.Prelude.{BoardRow, Pipeline, RowChange, AddProject, AddRunner, PauseRunner, SetFile, SetVariable, DeleteVariable, SetMode, ShowMode}
+use Rattle.ci_machine_steps.specs.Prelude.{CreatePipeline, ShowPipeline, AskJob, UpdateJob, AppendTrace, ShowJob, ShowTrace, Read, Play, CancelJob, CancelPipeline, RetryJob}
+use Rattle.ci_machine_steps.specs.Prelude.{PruneOne, Event, Seed, Answer, State, AreBoard, is_open_in, Plan, is_prunable, prunable_in, prune, Happens, jobs_in, IsLeastPrunable}
+use Rattle.ci_machine_steps.specs.Prelude.{NoneIsPrunable, IsPrunedBy}
 use Rattle.ci_machine.proofs.Keyed.{not_true, Rising, has_find, least_find, All-from_has, contains_from_has}
 use Rattle.ci_machine_laws.proofs.Sweeps.{find_none}
 
@@ -53,7 +40,7 @@ module _ (s : State) (board : List BoardRow) (before : ℕ) (are : AreBoard s bo
   }
 
   abbrev Fits : Plan → Type 0
-  Fits plan = IsPrunedBy s (event.Request (PruneOne before)) (answer.Reply plan.0)
+  Fits plan = IsPrunedBy s (Event.Request (PruneOne before)) (Answer.Reply plan.0)
 
   fits : Rising (λ (p : Pipeline). p.id) 0 s.pipelines → (found : Option Pipeline) → prunable_in s board before ≡ found → Fits (prune found (jobs_in s found) s.attempts)
   fits rise None found = inr (refl, none_prunable found)
@@ -61,27 +48,27 @@ module _ (s : State) (board : List BoardRow) (before : ℕ) (are : AreBoard s bo
 
 pub pruned_by : (s : State) (board : List BoardRow) (e : Event) (now : ℕ) (seed : Seed) (a : Answer) (changes : List RowChange) → AreBoard s board → Rising (λ (p : Pipeline). p.id) 0 s.pipelines
     → Happens s board e now seed a changes → IsPrunedBy s e a
-pruned_by s board (event.Request (PruneOne before)) now seed (answer.Reply reply) changes are rise is =
+pruned_by s board (Event.Request (PruneOne before)) now seed (Answer.Reply reply) changes are rise is =
     subst (Fits s board before are) (sym is) (fits s board before are rise (prunable_in s board before) refl)
-pruned_by s board (event.Request (PruneOne before)) now seed (answer.Swept swept) changes are rise is = absurd is
-pruned_by s board event.Sweep now seed a changes are rise is = tt
-pruned_by s board (event.Request (AddProject x)) now seed a changes are rise is = tt
-pruned_by s board (event.Request (AddRunner x)) now seed a changes are rise is = tt
-pruned_by s board (event.Request (PauseRunner x)) now seed a changes are rise is = tt
-pruned_by s board (event.Request (SetFile x)) now seed a changes are rise is = tt
-pruned_by s board (event.Request (SetVariable x)) now seed a changes are rise is = tt
-pruned_by s board (event.Request (DeleteVariable x)) now seed a changes are rise is = tt
-pruned_by s board (event.Request (SetMode x)) now seed a changes are rise is = tt
-pruned_by s board (event.Request (ShowMode x)) now seed a changes are rise is = tt
-pruned_by s board (event.Request (CreatePipeline x)) now seed a changes are rise is = tt
-pruned_by s board (event.Request (ShowPipeline x)) now seed a changes are rise is = tt
-pruned_by s board (event.Request (AskJob x)) now seed a changes are rise is = tt
-pruned_by s board (event.Request (UpdateJob x)) now seed a changes are rise is = tt
-pruned_by s board (event.Request (AppendTrace x)) now seed a changes are rise is = tt
-pruned_by s board (event.Request (ShowJob x)) now seed a changes are rise is = tt
-pruned_by s board (event.Request (ShowTrace x)) now seed a changes are rise is = tt
-pruned_by s board (event.Request (Read x)) now seed a changes are rise is = tt
-pruned_by s board (event.Request (Play x)) now seed a changes are rise is = tt
-pruned_by s board (event.Request (CancelJob x)) now seed a changes are rise is = tt
-pruned_by s board (event.Request (CancelPipeline x)) now seed a changes are rise is = tt
-pruned_by s board (event.Request (RetryJob x)) now seed a changes are rise is = tt
+pruned_by s board (Event.Request (PruneOne before)) now seed (Answer.Swept swept) changes are rise is = absurd is
+pruned_by s board Event.Sweep now seed a changes are rise is = tt
+pruned_by s board (Event.Request (AddProject x)) now seed a changes are rise is = tt
+pruned_by s board (Event.Request (AddRunner x)) now seed a changes are rise is = tt
+pruned_by s board (Event.Request (PauseRunner x)) now seed a changes are rise is = tt
+pruned_by s board (Event.Request (SetFile x)) now seed a changes are rise is = tt
+pruned_by s board (Event.Request (SetVariable x)) now seed a changes are rise is = tt
+pruned_by s board (Event.Request (DeleteVariable x)) now seed a changes are rise is = tt
+pruned_by s board (Event.Request (SetMode x)) now seed a changes are rise is = tt
+pruned_by s board (Event.Request (ShowMode x)) now seed a changes are rise is = tt
+pruned_by s board (Event.Request (CreatePipeline x)) now seed a changes are rise is = tt
+pruned_by s board (Event.Request (ShowPipeline x)) now seed a changes are rise is = tt
+pruned_by s board (Event.Request (AskJob x)) now seed a changes are rise is = tt
+pruned_by s board (Event.Request (UpdateJob x)) now seed a changes are rise is = tt
+pruned_by s board (Event.Request (AppendTrace x)) now seed a changes are rise is = tt
+pruned_by s board (Event.Request (ShowJob x)) now seed a changes are rise is = tt
+pruned_by s board (Event.Request (ShowTrace x)) now seed a changes are rise is = tt
+pruned_by s board (Event.Request (Read x)) now seed a changes are rise is = tt
+pruned_by s board (Event.Request (Play x)) now seed a changes are rise is = tt
+pruned_by s board (Event.Request (CancelJob x)) now seed a changes are rise is = tt
+pruned_by s board (Event.Request (CancelPipeline x)) now seed a changes are rise is = tt
+pruned_by s board (Event.Request (RetryJob x)) now seed a changes are rise is = tt

@@ -1,10 +1,8 @@
 -- Many records put into a list in the order of its numbers.
-use Rattle.std.specs.Prelude.{◌≡◌, ℕ, ◌+◌, ◌<◌, ◌≤◌, true, false, not, ◌==◌, if◌then◌else◌, List, [], ◌∷◌, map}
-use Rattle.std.specs.Ordering.{nat_cmp, is_eq, is_lt}
-use Rattle.std.specs.declared.cmp.Ordering.{Ordering}
-use Rattle.std.proofs.Common.{refl, sym, ap, subst, ◌∙◌, inl, inr, ⊎_elim, arith, eqb-true, eq-eqb, ne_eqb, map-id}
+use Rattle.std.proofs.Common.{◌≡◌, ℕ, ◌+◌, ◌<◌, ◌≤◌, true, false, not, ◌==◌, if◌then◌else◌, List, [], ◌∷◌, map, nat_cmp, is_eq, is_lt, Ordering, refl, sym, ap, subst, ◌∙◌, inl}
+use Rattle.std.proofs.Common.{inr, ⊎_elim, arith, eqb-true, eq-eqb, ne_eqb, map-id}
 use Rattle.std.proofs.lemmas.Bool.{cond_both, cond-true, cond-false, both_ways, cases_Bool, false_from_ne_true}
-use Rattle.ci_machine.specs.State.{placed, others, put}
+use Rattle.ci_machine_steps.specs.Prelude.{placed, others, put}
 use Rattle.ci_machine.proofs.Keyed.{Has, Rising, Named, less, equal, unequal, rising_from, rising_put, put_has, has_map, map_has, one_at}
 use Rattle.ci_machine.proofs.Filters.{filter_all}
 use Rattle.ci_machine_steps.proofs.Behind.{nat_less, put_all}

@@ -1,50 +1,22 @@
 -- The resource groups that are told of a project are those that have a process mode or are held.
-use Rattle.std.specs.Prelude.{◌≡◌, ◌⊎◌, ℕ, true, not, ◌==◌, ◌&&◌, List, [], ◌∷◌, map, find, flat_map, Option, Some, None, option_map, option_and_then, Result, Ok, Err}
+use Rattle.std.proofs.Common.{◌≡◌, ◌⊎◌, ℕ, true, not, ◌==◌, ◌&&◌, List, [], ◌∷◌, map, find, flat_map, Option, Some, None, option_map, option_and_then, Result, Ok, Err, nat_cmp}
+use Rattle.std.proofs.Common.{is_eq, is_lt, Ordering, Less, refl, sym, ap, subst, ◌∙◌, inl, inr, ⊎_elim, eqb-true, eq-eqb}
 use Rattle.std.specs.List.{AllByRecursion}
 use Rattle.std.specs.List.Sorted.{IsStrictlySortedBy}
 use Rattle.std.specs.Str.{bytes_eq}
-use Rattle.std.specs.Ordering.{nat_cmp, is_eq, is_lt, ordering_then}
-use Rattle.std.specs.declared.cmp.Ordering.{Ordering}
-use Rattle.std.specs.declared.cmp.Ordering.TheVariants.{Less}
+use Rattle.std.specs.Ordering.{ordering_then}
 use Rattle.std.specs.Cmp.Lexicographic.{slice_cmp}
 use Rattle.std.specs.Cmp.{IsTotalOrder, Equal-is}
-use Rattle.std.proofs.Common.{refl, sym, ap, subst, ◌∙◌, inl, inr, ⊎_elim, eqb-true, eq-eqb}
 use Rattle.std.proofs.lemmas.Bool.{cond_both, cases_Bool, both_ways, and_parts}
 use Rattle.std.proofs.lemmas.Cmp.{nat_cmp_total, on_total, then_total, nat_list_cmp_total}
 use Rattle.std.proofs.lemmas.Map.Text.{is_eq-slice_cmp}
 use Rattle.std.proofs.lemmas.Slice.Eq.{bytes_eq-Decides}
-use Rattle.ci_machine.specs.declared.records.Project.{Project}
-use Rattle.ci_machine.specs.declared.records.Attempt.{Attempt}
-use Rattle.ci_machine.specs.declared.records.BoardRow.{BoardRow}
-use Rattle.ci_machine.specs.declared.records.GroupMode.{GroupMode}
-use Rattle.ci_machine.specs.declared.records.Holder.{Holder}
-use Rattle.ci_machine.specs.declared.records.QueuedJob.{QueuedJob}
-use Rattle.ci_machine.specs.declared.change.RowChange.{RowChange}
-use Rattle.ci_machine.specs.declared.change.RowChange.TheVariants.{Put, Append, Remove}
-use Rattle.ci_machine.specs.declared.change.Record.{Record}
-use Rattle.ci_machine.specs.declared.change.Record.TheVariants as row
-use Rattle.ci_machine.specs.declared.change.Key.{Key}
-use Rattle.ci_machine.specs.declared.change.Key.TheVariants as key
-use Rattle.ci_machine.specs.declared.request.Event.TheVariants as event
-use Rattle.ci_machine.specs.declared.request.Request.TheVariants.{Read}
-use Rattle.ci_machine.specs.declared.request.ReadQuery.{ReadQuery}
-use Rattle.ci_machine.specs.declared.request.Subject.TheVariants as subject
-use Rattle.ci_machine.specs.declared.request.Seed.{Seed}
-use Rattle.ci_machine.specs.declared.reply.Code.{Code}
-use Rattle.ci_machine.specs.declared.reply.Reply.{Reply}
-use Rattle.ci_machine.specs.declared.reply.Answer.TheVariants as answer
-use Rattle.ci_machine.specs.State.{State, mode_cmp, placed, put, with_record, without_record, changed, applied}
-use Rattle.ci_machine.specs.Lookups.{attempt_at, live_attempts}
-use Rattle.ci_machine.specs.Leases.{is_live}
-use Rattle.ci_machine.specs.Eligible.{holds}
-use Rattle.ci_machine.specs.Holders.{group_held, held_by, held_of, queued_at, holders, holders_in}
-use Rattle.ci_machine.specs.Waiting.{modes_in}
+use Rattle.ci_machine_steps.specs.Prelude.{Project, Attempt, BoardRow, GroupMode, Holder, QueuedJob, RowChange, Put, Append, Remove, Record, Key, Event, Read, ReadQuery, Subject}
+use Rattle.ci_machine_steps.specs.Prelude.{Seed, Code, Reply, Answer, State, mode_cmp, placed, put, with_record, without_record, changed, applied, attempt_at, live_attempts}
+use Rattle.ci_machine_steps.specs.Prelude.{is_live, holds, group_held, held_by, held_of, queued_at, holders, holders_in, modes_in, Plan, with_names, group_names, read, Step, Past}
+use Rattle.ci_machine_steps.specs.Prelude.{Leads, IsReached}
 use Rattle.ci_machine.proofs.Keyed.{Has, Rising, has_put, put_has, has_filter, filter_has, has_map, map_has, has_find, find_has, All-from_has, contains_from_has, has_from_contains, equal}
 use Rattle.ci_machine.proofs.Tests.{any_has, has_any}
-use Rattle.ci_machine_steps.specs.Plans.{Plan}
-use Rattle.ci_machine_steps.specs.Reads.{with_names, group_names, read}
-use Rattle.ci_machine_steps.specs.Step.{Step}
-use Rattle.ci_machine_steps.specs.History.{Past, Leads, IsReached}
 use Rattle.ci_machine_steps.proofs.Behind.{in_either, has_left, has_right}
 use Rattle.ci_machine_steps.proofs.Variables.{Ordered, filter_ordered, put_ordered}
 use Rattle.ci_machine_steps.proofs.Sound.{rising_from_ascend}
@@ -62,30 +34,30 @@ abbrev InOrder : State → Type 0
 InOrder s = Ordered mode_cmp s.modes
 
 recorded : (r : Record) (s : State) → InOrder s → InOrder (with_record r s)
-recorded (row.Project p) s o = o
-recorded (row.Variable v) s o = o
-recorded (row.Runner p) s o = o
-recorded (row.Pipeline p) s o = o
-recorded (row.Job p) s o = o
-recorded (row.JobVariable v) s o = o
-recorded (row.Need n) s o = o
-recorded (row.Attempt p) s o = o
-recorded (row.Mode m) s o = put_ordered mode_cmp mode_total m s.modes o
-recorded (row.Next c n) s o = o
+recorded (Record.Project p) s o = o
+recorded (Record.Variable v) s o = o
+recorded (Record.Runner p) s o = o
+recorded (Record.Pipeline p) s o = o
+recorded (Record.Job p) s o = o
+recorded (Record.JobVariable v) s o = o
+recorded (Record.Need n) s o = o
+recorded (Record.Attempt p) s o = o
+recorded (Record.Mode m) s o = put_ordered mode_cmp mode_total m s.modes o
+recorded (Record.Next c n) s o = o
 
 removed : (k : Key) (s : State) → InOrder s → InOrder (without_record k s)
-removed (key.Project n) s o = o
-removed (key.Variable n name) s o = o
-removed (key.Runner n) s o = o
-removed (key.Pipeline n) s o = o
-removed (key.Job n) s o = o
-removed (key.JobVariable n name) s o = o
-removed (key.JobVariables n) s o = o
-removed (key.Need n pred) s o = o
-removed (key.Needs n) s o = o
-removed (key.Attempt n) s o = o
-removed (key.Mode n name) s o = filter_ordered mode_cmp _ s.modes o
-removed (key.Trace n) s o = o
+removed (Key.Project n) s o = o
+removed (Key.Variable n name) s o = o
+removed (Key.Runner n) s o = o
+removed (Key.Pipeline n) s o = o
+removed (Key.Job n) s o = o
+removed (Key.JobVariable n name) s o = o
+removed (Key.JobVariables n) s o = o
+removed (Key.Need n pred) s o = o
+removed (Key.Needs n) s o = o
+removed (Key.Attempt n) s o = o
+removed (Key.Mode n name) s o = filter_ordered mode_cmp _ s.modes o
+removed (Key.Trace n) s o = o
 
 one_change : (c : RowChange) (s : State) → InOrder s → InOrder (changed c s)
 one_change (Put r) s o = recorded r s o
@@ -264,10 +236,10 @@ module _ (s : State) (board : List BoardRow) (o : InOrder s) (rise : Rising (λ 
   abbrev Tells : Plan → Type 0
   Tells plan = plan.0.code ≡ None → TellsGroups s named plan.0
 
-  tells : (r : Result Project Code) → Asked s named r → Tells (read s board r subject.ResourceGroups)
+  tells : (r : Result Project Code) → Asked s named r → Tells (read s board r Subject.ResourceGroups)
   tells (Err code) asked none = absurd (cc)
   tells (Ok p) asked none =
-      let P : ℕ → Type 0 = λ n. TellsGroups s n (read s board (Ok p) subject.ResourceGroups).0 in
+      let P : ℕ → Type 0 = λ n. TellsGroups s n (read s board (Ok p) Subject.ResourceGroups).0 in
       subst P asked.1 (record {
         groups = group_names s p.id;
         are_groups = are_groups s p.id o;
@@ -275,11 +247,11 @@ module _ (s : State) (board : List BoardRow) (o : InOrder s) (rise : Rising (λ 
         told = refl;
       })
 
-pub groups_told : (s t : State) (query : ReadQuery) (now : ℕ) (seed : Seed) (reply : Reply) → IsReached s → query.subject ≡ subject.ResourceGroups
-    → Step s (event.Request (Read query)) now seed (answer.Reply reply) t → reply.code ≡ None → TellsGroups s query.project reply
+pub groups_told : (s t : State) (query : ReadQuery) (now : ℕ) (seed : Seed) (reply : Reply) → IsReached s → query.subject ≡ Subject.ResourceGroups
+    → Step s (Event.Request (Read query)) now seed (Answer.Reply reply) t → reply.code ≡ None → TellsGroups s query.project reply
 groups_told s t query now seed reply reaches is step none =
     let r = of_asked s query.token query.project in
     let rise = rising_from_ascend (λ (a : Attempt). a.id) s.attempts (sound_reached s reaches).attempts_ascend in
     let P : Plan → Type 0 = λ plan. plan.0.code ≡ None → TellsGroups s query.project plan.0 in
-    let does : (reply, step.changes) ≡ read s step.before r subject.ResourceGroups = step.happens ∙ ap (λ w. read s step.before r w) is in
+    let does : (reply, step.changes) ≡ read s step.before r Subject.ResourceGroups = step.happens ∙ ap (λ w. read s step.before r w) is in
     subst P (sym does) (tells s step.before (in_order reaches.0 s reaches.1) rise query.project r (is_asked s query.token query.project)) none

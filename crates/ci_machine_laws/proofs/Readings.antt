@@ -1,23 +1,12 @@
 -- What a text says is one answer, but that a pattern of it may be refused; and so is what it lays out.
-use Rattle.std.specs.Prelude.{◌≡◌, ◌⊎◌, ℕ, List, Result, Ok, Err}
-use Rattle.std.proofs.Common.{refl, sym, ap, subst, ◌∙◌, inl, inr, ⊎_elim}
-use Rattle.ci_expr.specs.declared.fault.ExprCode.TheVariants.{X8}
-use Rattle.ci_yaml_lines.specs.declared.code.Code.{Code}
-use Rattle.ci_yaml_lines.specs.Tree.{Value}
-use Rattle.ci_yaml.specs.Document.{HasTree, IsFault}
-use Rattle.ci_config.specs.Config.{Config}
-use Rattle.ci_config.specs.Expressions.{Patterns, built, refused}
-use Rattle.ci_config.specs.Fault.{Fault, K13}
-use Rattle.ci_config.specs.Laws.{LacksPatterns}
-use Rattle.ci_config.specs.Meaning.{meaning, Means}
+use Rattle.std.proofs.Common.{◌≡◌, ◌⊎◌, ℕ, List, Result, Ok, Err, refl, sym, ap, subst, ◌∙◌, inl, inr, ⊎_elim}
+use Rattle.ci_graph_layout.specs.Prelude.{X8, Config, Patterns, built, refused, Fault, K13, LacksPatterns, meaning, Means, Plans, faulty, cyclic, planned, Given}
+use Rattle.ci_config.specs.Prelude.{Code, Value}
+use Rattle.ci_yaml.specs.Prelude.{HasTree, IsFault}
 use Rattle.ci_graph_layout.specs.Fault as layout
-use Rattle.ci_graph_layout.specs.Fault.{Plans, faulty, cyclic, planned}
-use Rattle.ci_graph_layout.specs.Inclusion.{Given}
 use Rattle.ci_graph_layout.specs.declared.fault.GraphCode.{GraphCode}
-use Rattle.ci_machine.specs.declared.reply.Detail.{Detail}
-use Rattle.ci_machine_steps.specs.Files.{line_fault, keyword_fault, IsRead, configures, misconfigures, lacks_tree}
+use Rattle.ci_machine_steps.specs.Prelude.{Detail, line_fault, keyword_fault, IsRead, configures, misconfigures, lacks_tree, graph_fault, Layout, IsLaidOut, misread, unplanned}
 use Rattle.ci_machine_steps.specs.Pipelines as pipelines
-use Rattle.ci_machine_steps.specs.Pipelines.{graph_fault, Layout, IsLaidOut, misread, unplanned}
 use Rattle.ci_machine_laws.specs.OneOutcome.{HoldsPattern}
 
 -- what is cited of the crates below: a text has one tree, or one fault; a tree has one meaning, or a pattern of it is refused

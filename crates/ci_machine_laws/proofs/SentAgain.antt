@@ -1,45 +1,16 @@
 -- What a runner sends again changes nothing.
-use Rattle.std.specs.Prelude.{◌≡◌, ◌⊎◌, ℕ, ◌+◌, Bool, true, false, cond, ◌==◌, not, max, List, [], ◌∷◌, ◌++◌, length, find, Option, Some, None, option_map, Result, Ok, Err}
+use Rattle.std.proofs.Common.{◌≡◌, ◌⊎◌, ℕ, ◌+◌, Bool, true, false, cond, ◌==◌, not, max, List, [], ◌∷◌, ◌++◌, length, find, Option, Some, None, option_map, Result, Ok, Err}
+use Rattle.std.proofs.Common.{nat_cmp, is_eq, is_lt, Ordering, refl, sym, ap, subst, ◌∙◌, inl, inr, ⊎_elim, arith, eqb-true, eq-eqb, ne_eqb}
 use Rattle.std.specs.Str.{bytes_eq}
-use Rattle.std.specs.Ordering.{nat_cmp, is_eq, is_lt}
-use Rattle.std.specs.declared.cmp.Ordering.{Ordering}
-use Rattle.std.proofs.Common.{refl, sym, ap, subst, ◌∙◌, inl, inr, ⊎_elim, arith, eqb-true, eq-eqb, ne_eqb}
 use Rattle.std.proofs.lemmas.Bool.{cond_both, cond-true, cond-false, both_ways, false≢true}
 use Rattle.std.proofs.lemmas.List.{append-nil, length-append}
-use Rattle.ci_values.specs.declared.attempts.AttemptState.{AttemptState}
-use Rattle.ci_values.specs.declared.attempts.AttemptState.TheVariants.{Live, Succeeded, Failed, Cancelled}
-use Rattle.ci_values.specs.Attempts.{is_live_state}
-use Rattle.ci_machine.specs.declared.records.Attempt.{Attempt}
-use Rattle.ci_machine.specs.declared.records.Trace.{Trace}
-use Rattle.ci_machine.specs.declared.lease.Lease.{Lease}
-use Rattle.ci_machine.specs.declared.lease.LeaseFault.{LeaseFault}
-use Rattle.ci_machine.specs.declared.lease.LeaseFault.TheVariants.{NotLive, LeaseOver}
-use Rattle.ci_machine.specs.declared.lease.PieceFault.{PieceFault}
-use Rattle.ci_machine.specs.declared.change.RowChange.{RowChange}
-use Rattle.ci_machine.specs.declared.change.RowChange.TheVariants.{Put}
-use Rattle.ci_machine.specs.declared.change.Record.TheVariants as row
-use Rattle.ci_machine.specs.declared.request.Event.{Event}
-use Rattle.ci_machine.specs.declared.request.Event.TheVariants as event
-use Rattle.ci_machine.specs.declared.request.Request.TheVariants.{UpdateJob, AppendTrace}
-use Rattle.ci_machine.specs.declared.request.Seed.{Seed}
-use Rattle.ci_machine.specs.declared.request.Report.{Report}
-use Rattle.ci_machine.specs.declared.request.Report.TheVariants as report
-use Rattle.ci_machine.specs.declared.request.JobUpdate.{JobUpdate}
-use Rattle.ci_machine.specs.declared.request.TracePart.{TracePart}
-use Rattle.ci_machine.specs.declared.reply.Code.TheVariants.{M5}
-use Rattle.ci_machine.specs.declared.reply.HttpStatus.{HttpStatus}
-use Rattle.ci_machine.specs.declared.reply.HttpStatus.TheVariants.{Fine}
-use Rattle.ci_machine.specs.declared.reply.Reply.{Reply}
-use Rattle.ci_machine.specs.declared.reply.Answer.{Answer}
-use Rattle.ci_machine.specs.declared.reply.Answer.TheVariants as answer
-use Rattle.ci_machine.specs.State.{State, applied, placed, put, others, attempt_cmp, trace_cmp, trace_in, with_bytes}
-use Rattle.ci_machine.specs.Leases.{is_live, is_over, while_leased, renewed, accepted, same_exit, is_same_end, finished}
-use Rattle.ci_machine.specs.Reply.{status_of_state, refusal}
-use Rattle.ci_machine_steps.specs.Plans.{Plan, refused}
-use Rattle.ci_machine_steps.specs.Reports.{told, heard, ended, reported, update_job}
-use Rattle.ci_machine_steps.specs.Traces.{grown, appended, append_trace}
-use Rattle.ci_machine_steps.specs.Step.{Happens, Step, attempt_at, lease_of, lease_at, trace_of}
-use Rattle.ci_machine_steps.specs.History.{Past, Leads, IsReached}
+use Rattle.ci_machine_steps.specs.Prelude.{AttemptState, Live, Succeeded, Cancelled, is_live_state, Attempt, Trace, Lease, LeaseFault, NotLive, LeaseOver, PieceFault, RowChange}
+use Rattle.ci_machine_steps.specs.Prelude.{Put, Record, Event, UpdateJob, AppendTrace, Seed, Report, JobUpdate, TracePart, M5, HttpStatus, Fine, Reply, Answer, State, applied}
+use Rattle.ci_machine_steps.specs.Prelude.{placed, put, others, attempt_cmp, trace_cmp, trace_in, with_bytes, is_live, is_over, while_leased, renewed, accepted, same_exit}
+use Rattle.ci_machine_steps.specs.Prelude.{is_same_end, finished, status_of_state, refusal, Plan, refused, heard, ended, reported, update_job, grown, appended, append_trace}
+use Rattle.ci_machine_steps.specs.Prelude.{Happens, Step, attempt_at, lease_of, lease_at, trace_of, Past, Leads, IsReached}
+use Rattle.ci_machine.specs.Prelude.{Failed}
+use Rattle.ci_machine_steps.specs.Reports.{told}
 use Rattle.ci_machine.proofs.Keyed.{Has, Rising, rising_put, find_has, has_find, equal, All-from_has, contains_named, named_contains}
 use Rattle.ci_machine.proofs.Filters.{filter_implied}
 use Rattle.ci_machine_steps.proofs.Traces.{its_trace}
@@ -127,7 +98,7 @@ module _ (s : State) (rise : Rising (λ (a : Attempt). a.id) 0 s.attempts) where
 
   module _ (u : JobUpdate) (now : ℕ) where
     abbrev runs : State → Plan
-    runs t = update_job (lease_at t u.attempt) (record u { report = report.Running }) now
+    runs t = update_job (lease_at t u.attempt) (record u { report = Report.Running }) now
 
     -- x was heard of, and is heard of again
     stands : (x : Attempt) (limit seen : ℕ) (r : Result ℕ LeaseFault) → x.seen ≡ max seen now → renewed x limit now ≡ r → applied (heard x r).1 (with_attempt x) ≡ with_attempt x
@@ -140,22 +111,22 @@ module _ (s : State) (rise : Rising (λ (a : Attempt). a.id) 0 s.attempts) where
     hears : (a : Attempt) → attempt_at s u.attempt ≡ Some a → a.id ≡ u.attempt → bytes_eq a.token u.token ≡ true → (r : Result ℕ LeaseFault) → renewed a (lease_of s a).limit now ≡ r → Twice runs s (heard a r)
     hears a found its token (Err fault) is =
         rests runs s (heard a (Err fault))
-        (ap (λ o. update_job (option_map (lease_of s) o) (record u { report = report.Running }) now) found
+        (ap (λ o. update_job (option_map (lease_of s) o) (record u { report = Report.Running }) now) found
         ∙ (cond-true (bytes_eq a.token u.token) (heard a (renewed a (lease_of s a).limit now)) (refused M5) token ∙ ap (heard a) is)) refl
     hears a found its token (Ok z) is =
         let limit = (lease_of s a).limit in
         let x : Attempt = record a { seen = z } in
         let t = with_attempt x in
         let then : runs t ≡ heard x (renewed x limit now)
-        = ap (λ o. update_job (option_map (lease_of t) o) (record u { report = report.Running }) now) (found_put u.attempt x s.attempts rise its)
+        = ap (λ o. update_job (option_map (lease_of t) o) (record u { report = Report.Running }) now) (found_put u.attempt x s.attempts rise its)
         ∙ cond-true (bytes_eq x.token u.token) (heard x (renewed x limit now)) (refused M5) token in
         ap (λ (p : Plan). applied p.1 t) then ∙ stands x limit a.seen (renewed x limit now) (while_ok a.state (is_over a limit now) (max a.seen now) z is) refl
 
-    runs_twice : (o : Option Attempt) → attempt_at s u.attempt ≡ o → Twice runs s (update_job (option_map (lease_of s) o) (record u { report = report.Running }) now)
-    runs_twice None found = rests runs s (refused M5) (ap (λ o. update_job (option_map (lease_of s) o) (record u { report = report.Running }) now) found) refl
+    runs_twice : (o : Option Attempt) → attempt_at s u.attempt ≡ o → Twice runs s (update_job (option_map (lease_of s) o) (record u { report = Report.Running }) now)
+    runs_twice None found = rests runs s (refused M5) (ap (λ o. update_job (option_map (lease_of s) o) (record u { report = Report.Running }) now) found) refl
     runs_twice (Some a) found =
         let its = eqb-true a.id u.attempt (has_find (λ (b : Attempt). b.id == u.attempt) a s.attempts found).1 in
-        let asked = ap (λ o. update_job (option_map (lease_of s) o) (record u { report = report.Running }) now) found in
+        let asked = ap (λ o. update_job (option_map (lease_of s) o) (record u { report = Report.Running }) now) found in
         let limit = (lease_of s a).limit in
         cond_both (bytes_eq a.token u.token) (heard a (renewed a limit now)) (refused M5) (Twice runs s)
         (λ token. hears a found its token (renewed a limit now) refl)
@@ -170,9 +141,9 @@ record IsFinal (r : Report) : Type 0 where
   plan : (l : Lease) (now : ℕ) → reported l r now ≡ ended l.attempt (finished l.attempt l.limit now state)
 
 final_of : (r : Report) → is_final r ≡ true → IsFinal r
-final_of report.Running e = absurd (false≢true e)
-final_of (report.Success exit) e = record { state = Succeeded exit; self = same_exit_self exit; plan = λ l now. refl }
-final_of (report.Failed cause exit) e = record { state = Failed cause exit; self = same_exit_self exit; plan = λ l now. refl }
+final_of Report.Running e = absurd (false≢true e)
+final_of (Report.Success exit) e = record { state = Succeeded exit; self = same_exit_self exit; plan = λ l now. refl }
+final_of (Report.Failed cause exit) e = record { state = Failed cause exit; self = same_exit_self exit; plan = λ l now. refl }
 
 -- an attempt of the state has ended so that the same report gets this reply again, and changes nothing
 pub record IsSettled (s : State) (u : JobUpdate) (reply : Reply) : Type 0 where
@@ -221,7 +192,7 @@ module _ (s : State) (rise : Rising (λ (a : Attempt). a.id) 0 s.attempts) (u : 
       final.plan l at
       ∙ (ap (λ (b : Attempt). ended b (finished b l.limit at final.state)) is
       ∙ (ap (ended a) (cond-true (is_same_end a.state final.state) (Ok a.state) (while_leased a.state (is_over a l.limit at) final.state) same)
-      ∙ ap (λ cs. (told (status_of_state a.state), cs)) (cond-false (is_live a) (Put (row.Attempt a) ∷ []) [] (same_ended a.state final.state same))))
+      ∙ ap (λ cs. (told (status_of_state a.state), cs)) (cond-false (is_live a) (Put (Record.Attempt a) ∷ []) [] (same_ended a.state final.state same))))
 
   settled_by : (a : Attempt) → Has a s.attempts → a.id ≡ u.attempt → bytes_eq a.token u.token ≡ true → is_same_end a.state final.state ≡ true → IsSettled s u (told (status_of_state a.state))
   settled_by a has its token same = record {
@@ -241,9 +212,9 @@ module _ (s : State) (rise : Rising (λ (a : Attempt). a.id) 0 s.attempts) (u : 
       let x : Attempt = record a { state = state } in
       let Q : List RowChange → Type 0 = λ cs. IsSettled (applied cs s) u (told (status_of_state state)) in
       ⊎_elim
-      (λ k. inr (subst Q (sym (cond-false (is_live a) (Put (row.Attempt x) ∷ []) [] (same_ended a.state final.state k.1)))
+      (λ k. inr (subst Q (sym (cond-false (is_live a) (Put (Record.Attempt x) ∷ []) [] (same_ended a.state final.state k.1)))
       (subst (λ w. IsSettled s u (told (status_of_state w))) (sym k.0) (settled_by a has its token k.1))))
-      (λ k. inr (subst Q (sym (cond-true (is_live a) (Put (row.Attempt x) ∷ []) [] k.1)) (
+      (λ k. inr (subst Q (sym (cond-true (is_live a) (Put (Record.Attempt x) ∷ []) [] k.1)) (
       let same : is_same_end state final.state ≡ true = subst (λ w. is_same_end w final.state ≡ true) (sym k.0) final.self in
       record {
         attempt = x;
@@ -278,7 +249,7 @@ module _ (s : State) (rise : Rising (λ (a : Attempt). a.id) 0 s.attempts) (u : 
       after_end a (Err fault) = rise
       after_end a (Ok state) =
           let x : Attempt = record a { state = state } in
-          cond_both (is_live a) (Put (row.Attempt x) ∷ []) [] (λ cs. Rising (λ (b : Attempt). b.id) 0 (applied cs s).attempts)
+          cond_both (is_live a) (Put (Record.Attempt x) ∷ []) [] (λ cs. Rising (λ (b : Attempt). b.id) 0 (applied cs s).attempts)
           (λ _. rising_put (λ (b : Attempt). b.id) x 0 s.attempts rise (omega arith)) (λ _. rise)
 
       still_rises : (o : Option Attempt) → Rising (λ (b : Attempt). b.id) 0 (applied (update_job (option_map (lease_of s) o) u now).1 s).attempts
@@ -292,9 +263,9 @@ module _ (s : State) (rise : Rising (λ (a : Attempt). a.id) 0 s.attempts) (u : 
 -- a word of a runner that is said twice at one moment
 updates_twice : (s : State) → Rising (λ (a : Attempt). a.id) 0 s.attempts → (u : JobUpdate) (now : ℕ) (r : Report)
     → Twice (λ t. update_job (lease_at t u.attempt) (record u { report = r }) now) s (update_job (lease_at s u.attempt) (record u { report = r }) now)
-updates_twice s rise u now report.Running = runs_twice s rise u now (attempt_at s u.attempt) refl
-updates_twice s rise u now (report.Success exit) = ended_twice s rise (record u { report = report.Success exit }) (final_of (report.Success exit) refl) now
-updates_twice s rise u now (report.Failed cause exit) = ended_twice s rise (record u { report = report.Failed cause exit }) (final_of (report.Failed cause exit) refl) now
+updates_twice s rise u now Report.Running = runs_twice s rise u now (attempt_at s u.attempt) refl
+updates_twice s rise u now (Report.Success exit) = ended_twice s rise (record u { report = Report.Success exit }) (final_of (Report.Success exit) refl) now
+updates_twice s rise u now (Report.Failed cause exit) = ended_twice s rise (record u { report = Report.Failed cause exit }) (final_of (Report.Failed cause exit) refl) now
 
 -- ---- a runner sends a piece of a trace
 
@@ -377,14 +348,14 @@ both s t u f one two is_one is_two to_t to_u same =
 
 -- two steps of the same of a runner at one moment lead to where the first of them does
 twice : (s t u : State) (e : Event) (now : ℕ) (first again : Seed) (a b : Answer) → Rising (λ (w : Attempt). w.id) 0 s.attempts → is_of_runner e ≡ true → Step s e now first a t → Step t e now again b u → u ≡ t
-twice s t u (event.Request (UpdateJob update)) now first again (answer.Reply reply) (answer.Reply then) rise is one two =
+twice s t u (Event.Request (UpdateJob update)) now first again (Answer.Reply reply) (Answer.Reply then) rise is one two =
     let f : State → Plan = λ w. update_job (lease_at w update.attempt) update now in
     both s t u f (reply, one.changes) (then, two.changes) one.happens two.happens one.state two.state (updates_twice s rise update now update.report)
-twice s t u (event.Request (AppendTrace part)) now first again (answer.Reply reply) (answer.Reply then) rise is one two =
+twice s t u (Event.Request (AppendTrace part)) now first again (Answer.Reply reply) (Answer.Reply then) rise is one two =
     let f : State → Plan = λ w. append_trace (lease_at w part.attempt) (length (trace_of w part.attempt)) part now in
     both s t u f (reply, one.changes) (then, two.changes) one.happens two.happens one.state two.state (appends_twice s rise part now (attempt_at s part.attempt) refl)
-twice s t u (event.Request request) now first again (answer.Swept swept) b rise is one two = absurd one.happens
-twice s t u (event.Request request) now first again a (answer.Swept swept) rise is one two = absurd two.happens
+twice s t u (Event.Request request) now first again (Answer.Swept swept) b rise is one two = absurd one.happens
+twice s t u (Event.Request request) now first again a (Answer.Swept swept) rise is one two = absurd two.happens
 twice s t u e now first again a b rise is one two = absurd (false≢true is)
 
 pub twice_reached : (s t u : State) (e : Event) (now : ℕ) (first again : Seed) (a b : Answer) → IsReached s → is_of_runner e ≡ true → Step s e now first a t → Step t e now again b u → u ≡ t
@@ -411,8 +382,8 @@ taken : (first : Past) (t : State) → Rising (λ (a : Attempt). a.id) 0 first.b
 taken first t rise step end =
     let s = first.before in
     let u = end.update in
-    let says : Happens s step.before (event.Request (UpdateJob u)) first.now first.seed (answer.Reply end.reply) step.changes
-    = subst (λ a. Happens s step.before (event.Request (UpdateJob u)) first.now first.seed a step.changes) end.answered
+    let says : Happens s step.before (Event.Request (UpdateJob u)) first.now first.seed (Answer.Reply end.reply) step.changes
+    = subst (λ a. Happens s step.before (Event.Request (UpdateJob u)) first.now first.seed a step.changes) end.answered
     (subst (λ e. Happens s step.before e first.now first.seed first.answer step.changes) end.sent step.happens) in
     let plan : Settles s u (end.reply, step.changes) = subst (Settles s u) (sym says) (reports s rise u (final_of u.report end.final) first.now (attempt_at s u.attempt) refl) in
     ⊎_elim
@@ -446,11 +417,11 @@ stands_still h s l first k end =
     (settled_at h s l first k end)
 
 -- a word of a runner that is answered so
-says_so : (s t : State) (u : JobUpdate) (now : ℕ) (seed : Seed) (a : Answer) → Step s (event.Request (UpdateJob u)) now seed a t → (r : Reply) → update_job (lease_at s u.attempt) u now ≡ (r, []) → (t ≡ s) × (a ≡ answer.Reply r)
-says_so s t u now seed (answer.Reply reply) step r is =
+says_so : (s t : State) (u : JobUpdate) (now : ℕ) (seed : Seed) (a : Answer) → Step s (Event.Request (UpdateJob u)) now seed a t → (r : Reply) → update_job (lease_at s u.attempt) u now ≡ (r, []) → (t ≡ s) × (a ≡ Answer.Reply r)
+says_so s t u now seed (Answer.Reply reply) step r is =
     let plan : (reply, step.changes) ≡ (r, []) = step.happens ∙ is in
-    (step.state ∙ ap (λ (p : Plan). applied p.1 s) plan, ap (λ (p : Plan). answer.Reply p.0) plan)
-says_so s t u now seed (answer.Swept swept) step r is = absurd step.happens
+    (step.state ∙ ap (λ (p : Plan). applied p.1 s) plan, ap (λ (p : Plan). Answer.Reply p.0) plan)
+says_so s t u now seed (Answer.Swept swept) step r is = absurd step.happens
 
 none_found : (n : ℕ) (xs : List Attempt) → ((b : Attempt) → Has b xs → b.id ≡ n → ⊥) → find (λ b. b.id == n) xs ≡ None
 none_found n [] none = refl
@@ -462,7 +433,7 @@ ends_again : (h : List Past) (p : Past) (s : State) → Leads h p.before → Ste
 ends_again h p s l step first k end same =
     let r = p.before in
     let u = end.update in
-    let its : Step r (event.Request (UpdateJob u)) p.now p.seed p.answer s = subst (λ e. Step r e p.now p.seed p.answer s) (same ∙ end.sent) step in
+    let its : Step r (Event.Request (UpdateJob u)) p.now p.seed p.answer s = subst (λ e. Step r e p.now p.seed p.answer s) (same ∙ end.sent) step in
     ⊎_elim
     (λ i.
     let said = says_so r s u p.now p.seed p.answer its end.reply (settled_again r (reached h r l).grants.rise u end.reply i p.now) in

@@ -1,46 +1,18 @@
 -- What a user's act answers is what is answered where the job or the pipeline is asked for next.
-use Rattle.std.specs.Prelude.{◌≡◌, ℕ, Bool, true, false, not, nat_lt, ◌==◌, List, [], ◌∷◌, length, map, replicate, Option, Some, None, Result, Ok, Err}
-use Rattle.std.proofs.Common.{refl, sym, ap, subst, ◌∙◌, ⊎_elim, arith, eq-eqb, eqb-true}
+use Rattle.std.proofs.Common.{◌≡◌, ℕ, Bool, true, false, not, nat_lt, ◌==◌, List, [], ◌∷◌, length, map, replicate, Option, Some, None, Result, Ok, Err, refl, sym, ap, subst, ◌∙◌}
+use Rattle.std.proofs.Common.{⊎_elim, arith, eq-eqb, eqb-true}
 use Rattle.std.proofs.lemmas.Bool.{cond_both, cond-true}
-use Rattle.ci_values.specs.Names.{is_name}
-use Rattle.ci_config.specs.declared.limits.TheConstants.{MAX_VARIABLES}
-use Rattle.ci_board.specs.Rows.{no_facts}
-use Rattle.ci_board.specs.declared.facts.Status.{Status}
-use Rattle.ci_board.specs.declared.facts.Status.TheVariants as status
-use Rattle.ci_machine.specs.declared.records.BoardRow.{BoardRow}
-use Rattle.ci_machine.specs.declared.records.Claim.{Claim}
-use Rattle.ci_machine.specs.declared.records.Job.{Job}
-use Rattle.ci_machine.specs.declared.records.Pipeline.{Pipeline}
-use Rattle.ci_machine.specs.declared.records.Project.{Project}
-use Rattle.ci_machine.specs.declared.change.RowChange.{RowChange}
-use Rattle.ci_machine.specs.declared.reply.Answer.TheVariants as answer
-use Rattle.ci_machine.specs.declared.reply.Code.{Code}
-use Rattle.ci_machine.specs.declared.reply.Code.TheVariants.{M2, M3, M10, M11, M12, M13, M14, M15}
-use Rattle.ci_machine.specs.declared.reply.Detail.{Detail}
-use Rattle.ci_machine.specs.declared.reply.Detail.TheVariants as detail
-use Rattle.ci_machine.specs.declared.reply.FaultCode.TheVariants.{K}
-use Rattle.ci_machine.specs.declared.reply.Reply.{Reply}
-use Rattle.ci_machine.specs.declared.request.Event.TheVariants as event
-use Rattle.ci_machine.specs.declared.request.JobQuery.{JobQuery}
-use Rattle.ci_machine.specs.declared.request.NewPipeline.{NewPipeline}
-use Rattle.ci_machine.specs.declared.request.PipelineQuery.{PipelineQuery}
-use Rattle.ci_machine.specs.declared.request.Request.{Request}
-use Rattle.ci_machine.specs.declared.request.Request.TheVariants.{AddProject, AddRunner, PauseRunner, SetFile, SetVariable, DeleteVariable, SetMode, ShowMode, CreatePipeline, ShowPipeline, AskJob, UpdateJob, AppendTrace, ShowJob, ShowTrace, Read, Play, CancelJob, CancelPipeline, RetryJob, PruneOne}
-use Rattle.ci_machine.specs.declared.request.Seed.{Seed}
-use Rattle.ci_machine.specs.State.{State, pipeline_cmp, job_cmp, attempt_cmp, others, applied}
-use Rattle.ci_machine.specs.Statuses.{jobs_of, attempts_of, facts_of, rows_of, status_for, AreBoard}
-use Rattle.ci_machine.specs.Waiting.{claims_in}
+use Rattle.ci_machine_steps.specs.Prelude.{is_name, no_facts, Status, BoardRow, Claim, Job, Pipeline, Project, RowChange, Answer, Code, M2, M3, M10, M11, M12, M13, M14, M15}
+use Rattle.ci_machine_steps.specs.Prelude.{Detail, K, Reply, Event, JobQuery, NewPipeline, PipelineQuery, Request, AddProject, AddRunner, PauseRunner, SetFile, SetVariable}
+use Rattle.ci_machine_steps.specs.Prelude.{DeleteVariable, SetMode, ShowMode, CreatePipeline, ShowPipeline, AskJob, UpdateJob, AppendTrace, ShowJob, ShowTrace, Read, Play}
+use Rattle.ci_machine_steps.specs.Prelude.{CancelJob, CancelPipeline, RetryJob, PruneOne, Seed, State, pipeline_cmp, job_cmp, attempt_cmp, others, applied, jobs_of, attempts_of}
+use Rattle.ci_machine_steps.specs.Prelude.{facts_of, rows_of, status_for, AreBoard, claims_in, Plan, faulted, asked_project, have_names, file_or_none, file_for, may_create, Layout}
+use Rattle.ci_machine_steps.specs.Prelude.{lacks_numbers, creation, creation_changes, ShowsCreated, MakesUnless, Makes, Creates, permitted, ShowsJobAfter, ShowsPipelineAfter}
+use Rattle.ci_machine_steps.specs.Prelude.{ActsOn, is_cancellable, cancellable_jobs, cancel, CancelsSome, CancelsPipeline, is_playable, play, is_retryable, retry, job_within}
+use Rattle.ci_machine_steps.specs.Prelude.{asked_job, job_shown, shown, show_job, asked_pipeline, pipeline_shown, show_pipeline, Does, Step, project_with, pipeline_at, pipeline_of}
+use Rattle.ci_machine_steps.specs.Prelude.{pipeline_or_none, project_or_none, job_at, queued, found_job, found_pipeline, Past, IsReached, job_for_good}
+use Rattle.ci_graph_layout.specs.Prelude.{MAX_VARIABLES}
 use Rattle.ci_machine.proofs.Keyed.{Has, Rising, rising_put, find_has, has_find, has_map, one_at}
-use Rattle.ci_machine_steps.specs.Plans.{Plan, faulted, asked_project}
-use Rattle.ci_machine_steps.specs.Pipelines.{have_names, file_or_none, file_for, may_create, Layout, lacks_numbers, creation, creation_changes, ShowsCreated, MakesUnless, Makes, Creates}
-use Rattle.ci_machine_steps.specs.Acts.{permitted, ShowsJobAfter, ShowsPipelineAfter, ActsOn}
-use Rattle.ci_machine_steps.specs.Cancels.{is_cancellable, cancellable_jobs, cancel, CancelsSome, CancelsPipeline}
-use Rattle.ci_machine_steps.specs.Plays.{is_playable, play}
-use Rattle.ci_machine_steps.specs.Retries.{is_retryable, retry}
-use Rattle.ci_machine_steps.specs.Shows.{job_within, asked_job, job_shown, shown, show_job, asked_pipeline, pipeline_shown, show_pipeline}
-use Rattle.ci_machine_steps.specs.Step.{Does, Step, project_with, pipeline_at, pipeline_of, pipeline_or_none, project_or_none, job_at, queued, found_job, found_pipeline}
-use Rattle.ci_machine_steps.specs.History.{Past, IsReached}
-use Rattle.ci_machine_steps.specs.Laws.{job_for_good}
 use Rattle.ci_machine_steps.proofs.Created.{created_state}
 use Rattle.ci_machine_steps.proofs.Behind.{put_all, has_all}
 use Rattle.ci_machine_laws.specs.ShownAgain.{ActsOnJob, asks_for}
@@ -60,14 +32,14 @@ number j = j.id
 -- ---- what is shown of a job depends on what it has for good
 
 good_shown : (claims : List Claim) (project : ℕ) (its : Status) (j : Job) → job_shown claims project (job_for_good j) its ≡ job_shown claims project j its
-good_shown claims project status.Created j = refl
-good_shown claims project status.Pending j = refl
-good_shown claims project status.Running j = refl
-good_shown claims project status.Success j = refl
-good_shown claims project status.Failed j = refl
-good_shown claims project status.Canceled j = refl
-good_shown claims project status.Skipped j = refl
-good_shown claims project status.Manual j = refl
+good_shown claims project Status.Created j = refl
+good_shown claims project Status.Pending j = refl
+good_shown claims project Status.Running j = refl
+good_shown claims project Status.Success j = refl
+good_shown claims project Status.Failed j = refl
+good_shown claims project Status.Canceled j = refl
+good_shown claims project Status.Skipped j = refl
+good_shown claims project Status.Manual j = refl
 
 shown_alike : (claims : List Claim) (project : ℕ) (its : Status) (j k : Job) → job_for_good j ≡ job_for_good k → job_shown claims project j its ≡ job_shown claims project k its
 shown_alike claims project its j k same = sym (good_shown claims project its j) ∙ (ap (λ (w : Job). job_shown claims project w its) same ∙ good_shown claims project its k)
@@ -272,9 +244,9 @@ coded d e = let bad : Some M14 ≡ None = e in absurd (cc)
 
 coded_for : (project : Project) (new : NewPipeline) → IsCoded (file_for project new)
 coded_for project new =
-    cond_both (not (is_name new.git_ref)) (Err (faulted (detail.Code (K 16)))) _ IsCoded (λ _. coded (detail.Code (K 16))) (λ _.
-    cond_both (nat_lt MAX_VARIABLES (length new.variables)) (Err (faulted (detail.Code (K 11)))) _ IsCoded (λ _. coded (detail.Code (K 11))) (λ _.
-    cond_both (not (have_names new.variables)) (Err (faulted (detail.Code (K 12)))) (file_or_none project.file) IsCoded (λ _. coded (detail.Code (K 12))) (λ _. coded_file project.file)))
+    cond_both (not (is_name new.git_ref)) (Err (faulted (Detail.Code (K 16)))) _ IsCoded (λ _. coded (Detail.Code (K 16))) (λ _.
+    cond_both (nat_lt MAX_VARIABLES (length new.variables)) (Err (faulted (Detail.Code (K 11)))) _ IsCoded (λ _. coded (Detail.Code (K 11))) (λ _.
+    cond_both (not (have_names new.variables)) (Err (faulted (Detail.Code (K 12)))) (file_or_none project.file) IsCoded (λ _. coded (Detail.Code (K 12))) (λ _. coded_file project.file)))
 
 module _ (s : State) (new : NewPipeline) (now : ℕ) (f : Plan) (none : f.0.code ≡ None) where
   abbrev IsMade : Type 0
@@ -325,26 +297,26 @@ module _ (s t : State) (linked : Linked s) (once : BoardOnce t) (new : NewPipeli
 -- ---- of each history
 
 -- each state has one board
-board_once : OneAssignment → (s t : State) (request : Request) (now : ℕ) (seed : Seed) (a : Reply) → IsReached s → Step s (event.Request request) now seed (answer.Reply a) t → BoardOnce t
+board_once : OneAssignment → (s t : State) (request : Request) (now : ℕ) (seed : Seed) (a : Reply) → IsReached s → Step s (Event.Request request) now seed (Answer.Reply a) t → BoardOnce t
 board_once law s t request now seed a is step xs ys are them =
-    let line : Past = record { before = s; event = event.Request request; now = now; seed = seed; answer = answer.Reply a } in
+    let line : Past = record { before = s; event = Event.Request request; now = now; seed = seed; answer = Answer.Reply a } in
     let one = one_board law (line ∷ is.0) t (is.1, step) in
     one.only xs are ∙ sym (one.only ys them)
 
-pub job_again : OneAssignment → (s t u : State) (request : Request) (query : JobQuery) (now later : ℕ) (seed other : Seed) (a b : Reply) → IsReached s → ActsOnJob query request → Step s (event.Request request) now seed (answer.Reply a) t → a.code ≡ None
-    → Step t (event.Request (ShowJob query)) later other (answer.Reply b) u → b ≡ a
+pub job_again : OneAssignment → (s t u : State) (request : Request) (query : JobQuery) (now later : ℕ) (seed other : Seed) (a b : Reply) → IsReached s → ActsOnJob query request → Step s (Event.Request request) now seed (Answer.Reply a) t → a.code ≡ None
+    → Step t (Event.Request (ShowJob query)) later other (Answer.Reply b) u → b ≡ a
 job_again law s t u request query now later seed other a b is acts first none second =
     by_request s t (reached is.0 s is.1).grants.jobs_rise (board_once law s t request now seed a is first) query (a, first.changes) (b, second.changes) first.state second.before second.are_before later other second.happens
     request first.before now seed acts first.happens none
 
-pub pipeline_again : OneAssignment → (s t u : State) (query : PipelineQuery) (now later : ℕ) (seed other : Seed) (a b : Reply) → IsReached s → Step s (event.Request (CancelPipeline query)) now seed (answer.Reply a) t → a.code ≡ None
-    → Step t (event.Request (ShowPipeline query)) later other (answer.Reply b) u → b ≡ a
+pub pipeline_again : OneAssignment → (s t u : State) (query : PipelineQuery) (now later : ℕ) (seed other : Seed) (a b : Reply) → IsReached s → Step s (Event.Request (CancelPipeline query)) now seed (Answer.Reply a) t → a.code ≡ None
+    → Step t (Event.Request (ShowPipeline query)) later other (Answer.Reply b) u → b ≡ a
 pipeline_again law s t u query now later seed other a b is first none second =
     pipeline_shown_again s t (reached is.0 s is.1).grants.jobs_rise (board_once law s t (CancelPipeline query) now seed a is first) query (a, first.changes) (b, second.changes) first.state second.before second.are_before later other second.happens
     first.before none (found_pipeline s query) refl first.happens
 
-pub creation_again : OneAssignment → (s t u : State) (new : NewPipeline) (now later : ℕ) (seed other : Seed) (a b : Reply) → IsReached s → Step s (event.Request (CreatePipeline new)) now seed (answer.Reply a) t → a.code ≡ None
-    → Step t (event.Request (ShowPipeline (asks_for new s.next.pipeline))) later other (answer.Reply b) u → b.body ≡ a.body
+pub creation_again : OneAssignment → (s t u : State) (new : NewPipeline) (now later : ℕ) (seed other : Seed) (a b : Reply) → IsReached s → Step s (Event.Request (CreatePipeline new)) now seed (Answer.Reply a) t → a.code ≡ None
+    → Step t (Event.Request (ShowPipeline (asks_for new s.next.pipeline))) later other (Answer.Reply b) u → b.body ≡ a.body
 creation_again law s t u new now later seed other a b is first none second =
     let f : Plan = (a, first.changes) in
     made_again s t (every.held is.0 s is.1).linked (board_once law s t (CreatePipeline new) now seed a is first) new now f (b, second.changes) first.state second.before second.are_before later other second.happens

@@ -1,52 +1,20 @@
 -- Each sweep that does something leaves fewer live attempts or fewer unfinished pipelines, so at one moment there comes one that finds nothing.
-use Rattle.std.specs.Prelude.{◌≡◌, ◌⊎◌, ℕ, zero, suc, ◌+◌, ◌<◌, ◌≤◌, Bool, true, false, ◌==◌, ◌&&◌, ◌||◌, not, if◌then◌else◌, List, [], ◌∷◌, ◌++◌, length, map, filter, find, Option, Some, None, option_map, slice_index_or}
+use Rattle.std.proofs.Common.{◌≡◌, ◌⊎◌, ℕ, zero, suc, ◌+◌, ◌<◌, ◌≤◌, Bool, true, false, ◌==◌, ◌&&◌, ◌||◌, not, if◌then◌else◌, List, [], ◌∷◌, ◌++◌, length, map, filter, find}
+use Rattle.std.proofs.Common.{Option, Some, None, option_map, slice_index_or, refl, sym, ap, subst, ◌∙◌, inl, inr, ⊎_elim, arith, eqb-true, eq-eqb, map-id}
 use Rattle.std.specs.List.{last_or, list_any}
-use Rattle.std.proofs.Common.{refl, sym, ap, subst, ◌∙◌, inl, inr, ⊎_elim, arith, eqb-true, eq-eqb, map-id}
 use Rattle.std.proofs.lemmas.Bool.{cond_both, cond-true, cond-false, both_ways, cases_Bool, cases_lt, false≢true, and_parts, and_from, and_left, false_from_ne_true}
 use Rattle.std.proofs.lemmas.List.{length-map}
-use Rattle.ci_values.specs.declared.attempts.AttemptState.{AttemptState}
-use Rattle.ci_values.specs.declared.attempts.AttemptState.TheVariants.{Failed}
-use Rattle.ci_values.specs.declared.when.AllowFailure.{AllowFailure}
-use Rattle.ci_values.specs.declared.when.AllowFailure.TheVariants as allow
-use Rattle.ci_values.specs.Attempts.{is_live_state}
-use Rattle.ci_graph.specs.declared.part.Part.{Part}
-use Rattle.ci_graph.specs.JobGraph.{JobGraph, part_at, predecessors_of}
-use Rattle.ci_board.specs.declared.facts.Effect.{Effect}
-use Rattle.ci_board.specs.declared.facts.Effect.TheVariants.{Good, Bars, Open}
-use Rattle.ci_board.specs.declared.facts.Facts.{Facts}
-use Rattle.ci_board.specs.declared.facts.Row.{Row}
-use Rattle.ci_board.specs.declared.facts.Status.{Status}
-use Rattle.ci_board.specs.declared.facts.Status.TheVariants as status
-use Rattle.ci_board.specs.Effects.{is_status, is_allowed, is_allowed_by, effect, is_open, is_met, waits_for_play, idle_status, status_by, status_of_effects}
+use Rattle.ci_machine_steps.specs.Prelude.{AttemptState, AllowFailure, is_live_state, Effect, Good, Bars, Facts, Row, Status, is_status, is_allowed, is_allowed_by, effect, is_open}
+use Rattle.ci_machine_steps.specs.Prelude.{is_met, waits_for_play, idle_status, status_by, status_of_effects, AreRows, no_facts, no_row, facts_at, statuses, effects_of}
+use Rattle.ci_machine_steps.specs.Prelude.{IsAssignment, some_job, has_status, has_strict, pipeline_status, Lease, Attempt, BoardRow, Job, Pipeline, PipelineWithStatus, Unfinished}
+use Rattle.ci_machine_steps.specs.Prelude.{Event, Seed, Answer, Swept, RowChange, State, applied, attempt_cmp, jobs_of, attempts_of, graph_of, facts_in, facts_of, row_for, rows_of}
+use Rattle.ci_machine_steps.specs.Prelude.{status_for, AreBoard, is_live, is_over, cause_of, first_due, is_unfinished, is_newer_of, is_redundant, is_open_in, is_cancellable}
+use Rattle.ci_machine_steps.specs.Prelude.{cancellable_jobs, is_lease_on, cancelled_job, cancelled_attempt, cancel, is_job_among, ends, sweep, Step, lease_of, leases}
+use Rattle.ci_machine_steps.specs.Prelude.{live_attempts, with_status, was_tried, redundant_in, cancellable_in, sweep_in, Past, Leads, NoneIsDue, NoneIsRedundant, IsSweptBy}
+use Rattle.ci_machine_steps.specs.Prelude.{HasOneBoard}
+use Rattle.ci_machine.specs.Prelude.{Failed, Part, JobGraph, part_at, predecessors_of}
+use Rattle.ci_board.specs.declared.facts.Effect.TheVariants.{Open}
 use Rattle.ci_board.specs.Standing as standing
-use Rattle.ci_board.specs.Rows.{AreRows, no_facts, no_row, facts_at, statuses}
-use Rattle.ci_board.specs.Statuses.{effects_of, IsAssignment}
-use Rattle.ci_board.specs.PipelineStatus.{some_job, has_status, has_strict, pipeline_status}
-use Rattle.ci_machine.specs.declared.lease.Lease.{Lease}
-use Rattle.ci_machine.specs.declared.records.Attempt.{Attempt}
-use Rattle.ci_machine.specs.declared.records.BoardRow.{BoardRow}
-use Rattle.ci_machine.specs.declared.records.Job.{Job}
-use Rattle.ci_machine.specs.declared.records.Pipeline.{Pipeline}
-use Rattle.ci_machine.specs.declared.records.PipelineWithStatus.{PipelineWithStatus}
-use Rattle.ci_machine.specs.declared.records.Unfinished.{Unfinished}
-use Rattle.ci_machine.specs.declared.request.Event.TheVariants as event
-use Rattle.ci_machine.specs.declared.request.Seed.{Seed}
-use Rattle.ci_machine.specs.declared.reply.Answer.TheVariants as answer
-use Rattle.ci_machine.specs.declared.reply.Swept.{Swept}
-use Rattle.ci_machine.specs.declared.reply.Swept.TheVariants as swept
-use Rattle.ci_machine.specs.declared.change.RowChange.{RowChange}
-use Rattle.ci_machine.specs.State.{State, applied, attempt_cmp}
-use Rattle.ci_machine.specs.Statuses.{jobs_of, attempts_of, graph_of, facts_in, facts_of, row_for, rows_of, status_for, AreBoard}
-use Rattle.ci_machine.specs.Leases.{is_live, is_over, cause_of, first_due}
-use Rattle.ci_machine.specs.Redundant.{is_unfinished, is_newer_of, is_redundant}
-use Rattle.ci_machine.specs.Indexes.{is_open_in}
-use Rattle.ci_machine_steps.specs.Cancels.{is_cancellable, cancellable_jobs, is_lease_on, cancelled_job, cancelled_attempt, cancel}
-use Rattle.ci_machine_steps.specs.Prunes.{is_job_among}
-use Rattle.ci_machine_steps.specs.Sweeps.{ends, sweep}
-use Rattle.ci_machine_steps.specs.Step.{Step, lease_of, leases, live_attempts, with_status, was_tried, redundant_in, cancellable_in, sweep_in}
-use Rattle.ci_machine_steps.specs.History.{Past, Leads}
-use Rattle.ci_machine_steps.specs.Laws.{NoneIsDue, NoneIsRedundant, IsSweptBy}
-use Rattle.ci_machine_steps.specs.OneBoard.{HasOneBoard}
 use Rattle.ci_machine_laws.specs.Sweeping.{Sweeps, unended, EndsBy}
 use Rattle.ci_machine.proofs.Keyed.{Has, Rising, has_filter, filter_has, has_find, has_map, find-map, one_at, has_from_all, All-from_has}
 use Rattle.ci_machine.proofs.Tests.{any_has, has_any}
@@ -107,75 +75,75 @@ some_none zero test h = refl
 some_none (suc n) test h = rw (h n (omega arith)) (some_none n test (λ k l. h k (omega arith)))
 
 -- what can't be cancelled is none of these
-not_running : (s : Status) → is_cancellable s ≡ false → is_status status.Running s ≡ false
-not_running status.Created e = refl
-not_running status.Pending e = refl
-not_running status.Running e = absurd (false≢true (sym e))
-not_running status.Success e = refl
-not_running status.Failed e = refl
-not_running status.Canceled e = refl
-not_running status.Skipped e = refl
-not_running status.Manual e = refl
+not_running : (s : Status) → is_cancellable s ≡ false → is_status Status.Running s ≡ false
+not_running Status.Created e = refl
+not_running Status.Pending e = refl
+not_running Status.Running e = absurd (false≢true (sym e))
+not_running Status.Success e = refl
+not_running Status.Failed e = refl
+not_running Status.Canceled e = refl
+not_running Status.Skipped e = refl
+not_running Status.Manual e = refl
 
-not_pending : (s : Status) → is_cancellable s ≡ false → is_status status.Pending s ≡ false
-not_pending status.Created e = refl
-not_pending status.Pending e = absurd (false≢true (sym e))
-not_pending status.Running e = refl
-not_pending status.Success e = refl
-not_pending status.Failed e = refl
-not_pending status.Canceled e = refl
-not_pending status.Skipped e = refl
-not_pending status.Manual e = refl
+not_pending : (s : Status) → is_cancellable s ≡ false → is_status Status.Pending s ≡ false
+not_pending Status.Created e = refl
+not_pending Status.Pending e = absurd (false≢true (sym e))
+not_pending Status.Running e = refl
+not_pending Status.Success e = refl
+not_pending Status.Failed e = refl
+not_pending Status.Canceled e = refl
+not_pending Status.Skipped e = refl
+not_pending Status.Manual e = refl
 
-not_manual : (s : Status) → is_cancellable s ≡ false → is_status status.Manual s ≡ false
-not_manual status.Created e = refl
-not_manual status.Pending e = refl
-not_manual status.Running e = refl
-not_manual status.Success e = refl
-not_manual status.Failed e = refl
-not_manual status.Canceled e = refl
-not_manual status.Skipped e = refl
-not_manual status.Manual e = absurd (false≢true (sym e))
+not_manual : (s : Status) → is_cancellable s ≡ false → is_status Status.Manual s ≡ false
+not_manual Status.Created e = refl
+not_manual Status.Pending e = refl
+not_manual Status.Running e = refl
+not_manual Status.Success e = refl
+not_manual Status.Failed e = refl
+not_manual Status.Canceled e = refl
+not_manual Status.Skipped e = refl
+not_manual Status.Manual e = absurd (false≢true (sym e))
 
 -- a pipeline without jobs that can be cancelled is finished
 is_finished : (parts : List Part) (facts : List Facts) (a : ℕ → Status) → ((k : ℕ) → k < length parts → is_cancellable (a k) ≡ false) → is_unfinished (pipeline_status parts facts a) ≡ false
 is_finished parts facts a h =
     let n = length parts in
-    let runs : some_job n (has_status a status.Running) ≡ false = some_none n (has_status a status.Running) (λ k l. not_running (a k) (h k l)) in
-    let waits : some_job n (has_status a status.Pending) ≡ false = some_none n (has_status a status.Pending) (λ k l. not_pending (a k) (h k l)) in
-    let manual : some_job n (has_strict parts facts a status.Manual) ≡ false = some_none n (has_strict parts facts a status.Manual) (λ k l. and_left (is_status status.Manual (a k)) _ (not_manual (a k) (h k l))) in
+    let runs : some_job n (has_status a Status.Running) ≡ false = some_none n (has_status a Status.Running) (λ k l. not_running (a k) (h k l)) in
+    let waits : some_job n (has_status a Status.Pending) ≡ false = some_none n (has_status a Status.Pending) (λ k l. not_pending (a k) (h k l)) in
+    let manual : some_job n (has_strict parts facts a Status.Manual) ≡ false = some_none n (has_strict parts facts a Status.Manual) (λ k l. and_left (is_status Status.Manual (a k)) _ (not_manual (a k) (h k l))) in
     rw runs (rw waits (rw manual (
-    cond_both (some_job n (has_strict parts facts a status.Failed)) status.Failed _ (λ s. is_unfinished s ≡ false) (λ _. refl) (λ _.
-    cond_both (some_job n (has_strict parts facts a status.Canceled)) status.Canceled _ (λ s. is_unfinished s ≡ false) (λ _. refl) (λ _.
-    cond_both (some_job n (λ j. not (is_status status.Skipped (a j) || is_status status.Manual (a j)))) status.Success status.Skipped (λ s. is_unfinished s ≡ false) (λ _. refl) (λ _. refl))))))
+    cond_both (some_job n (has_strict parts facts a Status.Failed)) Status.Failed _ (λ s. is_unfinished s ≡ false) (λ _. refl) (λ _.
+    cond_both (some_job n (has_strict parts facts a Status.Canceled)) Status.Canceled _ (λ s. is_unfinished s ≡ false) (λ _. refl) (λ _.
+    cond_both (some_job n (λ j. not (is_status Status.Skipped (a j) || is_status Status.Manual (a j)))) Status.Success Status.Skipped (λ s. is_unfinished s ≡ false) (λ _. refl) (λ _. refl))))))
 
 -- what the status is once it was cancelled, if it can be
 abbrev once_cancelled : Status → Status
-once_cancelled s = if is_cancellable s then status.Canceled else s
+once_cancelled s = if is_cancellable s then Status.Canceled else s
 
 never_again : (s : Status) → is_cancellable (once_cancelled s) ≡ false
-never_again s = cond_both (is_cancellable s) status.Canceled s (λ t. is_cancellable t ≡ false) (λ _. refl) (λ e. e)
+never_again s = cond_both (is_cancellable s) Status.Canceled s (λ t. is_cancellable t ≡ false) (λ _. refl) (λ e. e)
 
 -- a job that may fail while it is manual may fail once it is cancelled
-allowed_once : (allow_failure : AllowFailure) (f g : Facts) → is_allowed_by allow_failure f status.Manual ≡ true → is_allowed_by allow_failure g status.Canceled ≡ true
-allowed_once allow.No f g e = absurd (false≢true e)
-allowed_once allow.Yes f g e = refl
-allowed_once (allow.ExitCodes codes) f g e = absurd (false≢true e)
+allowed_once : (allow_failure : AllowFailure) (f g : Facts) → is_allowed_by allow_failure f Status.Manual ≡ true → is_allowed_by allow_failure g Status.Canceled ≡ true
+allowed_once AllowFailure.No f g e = absurd (false≢true e)
+allowed_once AllowFailure.Yes f g e = refl
+allowed_once (AllowFailure.ExitCodes codes) f g e = absurd (false≢true e)
 
 -- to the jobs behind it a job that wasn't open means what it meant
 same_effect : (part : Part) (f g : Facts) (gives_needs : Bool) (s : Status) → (is_cancellable s ≡ false → g ≡ f) → is_open (effect part f gives_needs s) ≡ false → effect part g gives_needs (once_cancelled s) ≡ effect part f gives_needs s
-same_effect part f g gives_needs status.Created same closed = absurd (false≢true (sym closed))
-same_effect part f g gives_needs status.Pending same closed = absurd (false≢true (sym closed))
-same_effect part f g gives_needs status.Running same closed = absurd (false≢true (sym closed))
-same_effect part f g gives_needs status.Success same closed = refl
-same_effect part f g gives_needs status.Failed same closed = ap (λ (h : Facts). effect part h gives_needs status.Failed) (same refl)
-same_effect part f g gives_needs status.Canceled same closed = ap (λ (h : Facts). effect part h gives_needs status.Canceled) (same refl)
-same_effect part f g gives_needs status.Skipped same closed = refl
-same_effect part f g gives_needs status.Manual same closed =
+same_effect part f g gives_needs Status.Created same closed = absurd (false≢true (sym closed))
+same_effect part f g gives_needs Status.Pending same closed = absurd (false≢true (sym closed))
+same_effect part f g gives_needs Status.Running same closed = absurd (false≢true (sym closed))
+same_effect part f g gives_needs Status.Success same closed = refl
+same_effect part f g gives_needs Status.Failed same closed = ap (λ (h : Facts). effect part h gives_needs Status.Failed) (same refl)
+same_effect part f g gives_needs Status.Canceled same closed = ap (λ (h : Facts). effect part h gives_needs Status.Canceled) (same refl)
+same_effect part f g gives_needs Status.Skipped same closed = refl
+same_effect part f g gives_needs Status.Manual same closed =
     ⊎_elim
-    (λ e. cond-true (is_allowed part g status.Canceled) Good Bars (allowed_once part.allow_failure f g e) ∙ sym (cond-true (is_allowed part f status.Manual) Good Open e))
-    (λ e. absurd (false≢true (sym closed ∙ ap is_open (cond-false (is_allowed part f status.Manual) Good Open e))))
-    (cases_Bool (is_allowed part f status.Manual))
+    (λ e. cond-true (is_allowed part g Status.Canceled) Good Bars (allowed_once part.allow_failure f g e) ∙ sym (cond-true (is_allowed part f Status.Manual) Good Open e))
+    (λ e. absurd (false≢true (sym closed ∙ ap is_open (cond-false (is_allowed part f Status.Manual) Good Open e))))
+    (cases_Bool (is_allowed part f Status.Manual))
 
 none_open : (es : List Effect) → list_any is_open es ≡ false → (e : Effect) → Has e es → is_open e ≡ false
 none_open es none e k = false_from_ne_true (is_open e) (λ t. both_ways (list_any is_open es) none (has_any is_open e es k t))
@@ -183,8 +151,8 @@ none_open es none e k = false_from_ne_true (is_open e) (λ t. both_ways (list_an
 -- the status of an idle job that can't be cancelled: it is skipped, and none that it waits for is open
 idle_skipped : (part : Part) (f : Facts) (es : List Effect) → is_cancellable (idle_status part f es) ≡ false → list_any is_open es ≡ false
 idle_skipped part f es e =
-    let closed = if is_met part.«when» es then (if waits_for_play part.«when» f then status.Manual else status.Pending) else status.Skipped in
-    false_from_ne_true (list_any is_open es) (λ t. false≢true (sym e ∙ ap is_cancellable (cond-true (list_any is_open es) status.Created closed t)))
+    let closed = if is_met part.«when» es then (if waits_for_play part.«when» f then Status.Manual else Status.Pending) else Status.Skipped in
+    false_from_ne_true (list_any is_open es) (λ t. false≢true (sym e ∙ ap is_cancellable (cond-true (list_any is_open es) Status.Created closed t)))
 
 -- ---- a pipeline whose jobs are cancelled
 
@@ -283,7 +251,7 @@ module _ (s : State) (board : List BoardRow) (are : AreBoard s board) (known : S
       out (subst (λ (v : Job). Has v marked) same on.1.0))))
 
   -- a cancelled job is canceled
-  stands_canceled : (part : Part) (j : Job) → Has j marked → standing.standing part (facts_in t (of_job j)) ≡ Some status.Canceled
+  stands_canceled : (part : Part) (j : Job) → Has j marked → standing.standing part (facts_in t (of_job j)) ≡ Some Status.Canceled
   stands_canceled part j k =
       let last : List Attempt → Bool = λ l. standing.is_live (option_map (λ (a : Attempt). a.state) (last_or None l)) in
       let none : last (map of_attempt (attempts_of s j.id)) ≡ false = last_ended of_attempt (attempts_of s j.id) None refl (λ a m.
@@ -293,7 +261,7 @@ module _ (s : State) (board : List BoardRow) (are : AreBoard s board) (known : S
       (has_any (λ (v : Job). v.id == a.job) j marked k (eq-eqb j.id a.job (sym (eqb-true a.job j.id w.1)))))))) in
       let ended_last : last (attempts_of t j.id) ≡ false = ap last (attempts_altered s of_job of_attempt alters j.id) ∙ none in
       ap (λ (w : Job). standing.standing part (facts_in t w)) (of_marked j k)
-      ∙ cond-false (last (attempts_of t j.id)) (Some status.Running) (Some status.Canceled) ended_last
+      ∙ cond-false (last (attempts_of t j.id)) (Some Status.Running) (Some Status.Canceled) ended_last
 
   -- ---- its jobs' statuses
 
@@ -359,11 +327,11 @@ module _ (s : State) (board : List BoardRow) (are : AreBoard s board) (known : S
       let before : a k ≡ status_of_effects part (facts_at old k) (effects_of g old a k) = (are.each p.id).is k l in
       ⊎_elim
       (λ (e : is_cancellable (a k) ≡ true).
-      cond-true (is_cancellable (a k)) status.Canceled (a k) e
+      cond-true (is_cancellable (a k)) Status.Canceled (a k) e
       ∙ sym (ap (λ (o : Option Status). status_by o (idle_status part (facts_at fresh k) (effects_of g fresh b k))) (ap (standing.standing part) w.is ∙ stands_canceled part w.job (is_marked k w e))))
       (λ (e : is_cancellable (a k) ≡ false).
       let same = facts_same k e in
-      let stays : b k ≡ a k = cond-false (is_cancellable (a k)) status.Canceled (a k) e in
+      let stays : b k ≡ a k = cond-false (is_cancellable (a k)) Status.Canceled (a k) e in
       stays ∙ (rest part (facts_at old k) (effects_of g old a k) (standing.standing part (facts_at old k)) refl (a k) e before (effects_of g fresh b k) (λ closed. effects_same k closed)
       ∙ sym (ap (λ (f : Facts). status_of_effects part f (effects_of g fresh b k)) same)))
       (cases_Bool (is_cancellable (a k)))
@@ -516,7 +484,7 @@ module _ (law : OneAssignment) (h : List Past) (s : State) (leads : Leads h s) (
   known = sound s (sound_reached s (h, leads))
 
   abbrev Leaves : List BoardRow → State → Swept × List RowChange → Type 0
-  Leaves board t f = t ≡ applied f.1 s → (f.0 ≡ swept.Nothing → ⊥) → HasOneBoard t → (after : List BoardRow) → AreBoard t after → unended t after + 1 ≤ unended s board
+  Leaves board t f = t ≡ applied f.1 s → (f.0 ≡ Swept.Nothing → ⊥) → HasOneBoard t → (after : List BoardRow) → AreBoard t after → unended t after + 1 ≤ unended s board
 
   module _ (board : List BoardRow) (are : AreBoard s board) where
     -- the attempt whose lease ends, and the state that this leads to
@@ -548,7 +516,7 @@ module _ (law : OneAssignment) (h : List Past) (s : State) (leads : Leads h s) (
       subst (λ (v : State). HasOneBoard v → AreBoard v after → unended v after + 1 ≤ unended s board) (sym (is ∙ w.to))
       (λ only its. fewer_ended s board are known w.x w.has w.live (Failed (cause_of l) None) refl only after its) one are_after
 
-  of_cancel : (board : List BoardRow) → AreBoard s board → (t : State) (p : Pipeline) → redundant_in s board ≡ Some p → Leaves board t (swept.Cancelled p.id, cancel s.attempts (cancellable_jobs s board p.id))
+  of_cancel : (board : List BoardRow) → AreBoard s board → (t : State) (p : Pipeline) → redundant_in s board ≡ Some p → Leaves board t (Swept.Cancelled p.id, cancel s.attempts (cancellable_jobs s board p.id))
   of_cancel board are t p found is something one after are_after =
       let found_open = redundant_open s board p found in
       subst (λ (w : State). HasOneBoard w → AreBoard w after → unended w after + 1 ≤ unended s board) (sym (is ∙ cancelled_state s board are known p))
@@ -560,7 +528,7 @@ module _ (law : OneAssignment) (h : List Past) (s : State) (leads : Leads h s) (
   of_sweep board are t None due (Some p) found = of_cancel board are t p found
   of_sweep board are t None due None found = λ is something one after are_after. absurd (something refl)
 
-  leaves_less : (seed : Seed) (did : Swept) (t : State) (was : HasOneBoard s) (is : HasOneBoard t) → Step s event.Sweep now seed (answer.Swept did) t → (did ≡ swept.Nothing → ⊥) → unended t is.board + 1 ≤ unended s was.board
+  leaves_less : (seed : Seed) (did : Swept) (t : State) (was : HasOneBoard s) (is : HasOneBoard t) → Step s Event.Sweep now seed (Answer.Swept did) t → (did ≡ Swept.Nothing → ⊥) → unended t is.board + 1 ≤ unended s was.board
   leaves_less seed did t was is step something =
       let less : unended t is.board + 1 ≤ unended s step.before
       = subst (Leaves step.before t) (sym step.happens) (of_sweep step.before step.are_before t (first_due (leases s) now) refl (redundant_in s step.before) refl) step.state something is is.board is.are_board in
@@ -606,7 +574,7 @@ module _ (law : OneAssignment) (h : List Past) (s : State) (leads : Leads h s) (
       (has_board (of_job s board are known p) (of_attempt s board are known p) (alters s board are known p) (λ j. all_at_id (λ (w : Job). w.id) (map cancelled_job (cancellable_jobs s board p.id)) j))
   sweep_stands board are None due None found = (board, are)
 
-  made : (seed : Seed) → (did : Swept) × (t : State) × Step s event.Sweep now seed (answer.Swept did) t
+  made : (seed : Seed) → (did : Swept) × (t : State) × Step s Event.Sweep now seed (Answer.Swept did) t
   made seed =
       let one = one_board law h s leads in
       let did = sweep_in s one.board now in
@@ -618,28 +586,28 @@ module _ (law : OneAssignment) (h : List Past) (s : State) (leads : Leads h s) (
 
 -- ---- many sweeps
 
-pub so_many : OneAssignment → (now : ℕ) (h : List Past) (s t : State) (did : List Swept) → Leads h s → (one : HasOneBoard s) → Sweeps now s did t → ((d : Swept) → Has d did → d ≡ swept.Nothing → ⊥) → length did ≤ unended s one.board
+pub so_many : OneAssignment → (now : ℕ) (h : List Past) (s t : State) (did : List Swept) → Leads h s → (one : HasOneBoard s) → Sweeps now s did t → ((d : Swept) → Has d did → d ≡ Swept.Nothing → ⊥) → length did ≤ unended s one.board
 so_many law now h s t [] leads one sweeps something = omega arith
 so_many law now h s t (d ∷ did) leads one sweeps something =
     let next = sweeps.0 in
-    let line : Past = record { before = s; event = event.Sweep; now = now; seed = sweeps.1; answer = answer.Swept d } in
+    let line : Past = record { before = s; event = Event.Sweep; now = now; seed = sweeps.1; answer = Answer.Swept d } in
     let leads_next : Leads (line ∷ h) next = (leads, sweeps.2) in
     let its = one_board law (line ∷ h) next leads_next in
     let less = leaves_less law h s leads now sweeps.1 d next one its sweeps.2 (something d (inl refl)) in
     let rest = so_many law now (line ∷ h) next t did leads_next its sweeps.3 (λ e k. something e (inr k)) in
     omega arith
 
-nothing_changes : (o : Option Lease) (redundant : Option Pipeline) (attempts : List Attempt) (jobs : List Job) → (sweep o redundant attempts jobs).0 ≡ swept.Nothing → (sweep o redundant attempts jobs).1 ≡ []
+nothing_changes : (o : Option Lease) (redundant : Option Pipeline) (attempts : List Attempt) (jobs : List Job) → (sweep o redundant attempts jobs).0 ≡ Swept.Nothing → (sweep o redundant attempts jobs).1 ≡ []
 nothing_changes (Some l) redundant attempts jobs e = absurd (cc)
 nothing_changes None (Some p) attempts jobs e = absurd (cc)
 nothing_changes None None attempts jobs e = refl
 
 -- where a sweep finds nothing, nothing is due and no pipeline is redundant, in the state after it too
-pub none_left : (now : ℕ) (h : List Past) (s t : State) (did : List Swept) → Leads h s → Sweeps now s (did ++ (swept.Nothing ∷ [])) t → NoneIsDue t now × NoneIsRedundant t
+pub none_left : (now : ℕ) (h : List Past) (s t : State) (did : List Swept) → Leads h s → Sweeps now s (did ++ (Swept.Nothing ∷ [])) t → NoneIsDue t now × NoneIsRedundant t
 none_left now h s t [] leads sweeps =
     let next = sweeps.0 in
     let step = sweeps.2 in
-    let line : Past = record { before = s; event = event.Sweep; now = now; seed = sweeps.1; answer = answer.Swept swept.Nothing } in
+    let line : Past = record { before = s; event = Event.Sweep; now = now; seed = sweeps.1; answer = Answer.Swept Swept.Nothing } in
     let all = (laws (line ∷ h) next (leads, step)).swept in
     let its : NoneIsDue s now × NoneIsRedundant s = has_from_all (λ (p : Past). IsSweptBy p.before p.now p.event p.answer) line (line ∷ h) all (inl refl) in
     let redundant = redundant_in s step.before in
@@ -647,34 +615,34 @@ none_left now h s t [] leads sweeps =
     ∙ nothing_changes (first_due (leases s) now) redundant s.attempts (cancellable_in s step.before redundant) (sym (ap (λ (f : Swept × List RowChange). f.0) step.happens)) in
     subst (λ (w : State). NoneIsDue w now × NoneIsRedundant w) (sym (sweeps.3 ∙ (step.state ∙ ap (λ (cs : List RowChange). applied cs s) none))) its
 none_left now h s t (d ∷ did) leads sweeps =
-    none_left now (record { before = s; event = event.Sweep; now = now; seed = sweeps.1; answer = answer.Swept d } ∷ h) sweeps.0 t did (leads, sweeps.2) sweeps.3
+    none_left now (record { before = s; event = Event.Sweep; now = now; seed = sweeps.1; answer = Answer.Swept d } ∷ h) sweeps.0 t did (leads, sweeps.2) sweeps.3
 
 -- ---- they end
 
-nothing_or : (d : Swept) → (d ≡ swept.Nothing) ⊎ (d ≡ swept.Nothing → ⊥)
-nothing_or (swept.Ended attempt cause) = inr (λ e. cc)
-nothing_or (swept.Cancelled pipeline) = inr (λ e. cc)
-nothing_or (swept.Refused code) = inr (λ e. cc)
-nothing_or swept.Nothing = inl refl
+nothing_or : (d : Swept) → (d ≡ Swept.Nothing) ⊎ (d ≡ Swept.Nothing → ⊥)
+nothing_or (Swept.Ended attempt cause) = inr (λ e. cc)
+nothing_or (Swept.Cancelled pipeline) = inr (λ e. cc)
+nothing_or (Swept.Refused code) = inr (λ e. cc)
+nothing_or Swept.Nothing = inl refl
 
-module _ (now : ℕ) (seed : Seed) (h : List Past) (s : State) (leads : Leads h s) (one : HasOneBoard s) (did : Swept) (t : State) (step : Step s event.Sweep now seed (answer.Swept did) t) where
+module _ (now : ℕ) (seed : Seed) (h : List Past) (s : State) (leads : Leads h s) (one : HasOneBoard s) (did : Swept) (t : State) (step : Step s Event.Sweep now seed (Answer.Swept did) t) where
   -- where the sweep finds nothing
-  done : did ≡ swept.Nothing → EndsBy now s one.board
+  done : did ≡ Swept.Nothing → EndsBy now s one.board
   done e =
-      let sweeps : Sweeps now s ([] ++ (swept.Nothing ∷ [])) t = (t, seed, subst (λ (d : Swept). Step s event.Sweep now seed (answer.Swept d) t) e step, refl) in
+      let sweeps : Sweeps now s ([] ++ (Swept.Nothing ∷ [])) t = (t, seed, subst (λ (d : Swept). Step s Event.Sweep now seed (Answer.Swept d) t) e step, refl) in
       let left = none_left now h s t [] leads sweeps in
-      record { did = []; last = t; sweeps = sweeps; something = All-from_has (λ (d : Swept). d ≡ swept.Nothing → ⊥) [] (λ d k. absurd k); few = omega arith; none_due = left.0; none_redundant = left.1 }
+      record { did = []; last = t; sweeps = sweeps; something = All-from_has (λ (d : Swept). d ≡ Swept.Nothing → ⊥) [] (λ d k. absurd k); few = omega arith; none_due = left.0; none_redundant = left.1 }
 
   -- and where it does something, before others that end
-  more : (did ≡ swept.Nothing → ⊥) → (board : List BoardRow) → unended t board + 1 ≤ unended s one.board → EndsBy now t board → EndsBy now s one.board
+  more : (did ≡ Swept.Nothing → ⊥) → (board : List BoardRow) → unended t board + 1 ≤ unended s one.board → EndsBy now t board → EndsBy now s one.board
   more something board less rest =
       record {
         did = did ∷ rest.did;
         last = rest.last;
         sweeps = (t, seed, step, rest.sweeps);
-        something = All-from_has (λ (d : Swept). d ≡ swept.Nothing → ⊥) (did ∷ rest.did) (λ d k. ⊎_elim
+        something = All-from_has (λ (d : Swept). d ≡ Swept.Nothing → ⊥) (did ∷ rest.did) (λ d k. ⊎_elim
             (λ e n. something (sym e ∙ n))
-            (λ m. has_from_all (λ (w : Swept). w ≡ swept.Nothing → ⊥) d rest.did rest.something m)
+            (λ m. has_from_all (λ (w : Swept). w ≡ Swept.Nothing → ⊥) d rest.did rest.something m)
             k);
         few = let few = rest.few in omega arith;
         none_due = rest.none_due;
@@ -687,7 +655,7 @@ ends_by law now seed zero h s leads one few =
     ⊎_elim
     (λ e. done now seed h s leads one m.0 m.1 m.2 e)
     (λ d.
-    let line : Past = record { before = s; event = event.Sweep; now = now; seed = seed; answer = answer.Swept m.0 } in
+    let line : Past = record { before = s; event = Event.Sweep; now = now; seed = seed; answer = Answer.Swept m.0 } in
     let its = one_board law (line ∷ h) m.1 (leads, m.2) in
     let less = leaves_less law h s leads now seed m.0 m.1 one its m.2 d in
     absurd (omega arith))
@@ -697,7 +665,7 @@ ends_by law now seed (suc n) h s leads one few =
     ⊎_elim
     (λ e. done now seed h s leads one m.0 m.1 m.2 e)
     (λ d.
-    let line : Past = record { before = s; event = event.Sweep; now = now; seed = seed; answer = answer.Swept m.0 } in
+    let line : Past = record { before = s; event = Event.Sweep; now = now; seed = seed; answer = Answer.Swept m.0 } in
     let its = one_board law (line ∷ h) m.1 (leads, m.2) in
     let less = leaves_less law h s leads now seed m.0 m.1 one its m.2 d in
     more now seed h s leads one m.0 m.1 m.2 d its.board less (ends_by law now seed n (line ∷ h) m.1 (leads, m.2) its (omega arith)))

@@ -1,26 +1,9 @@
 -- What a sweep does, in a state whose records stand in the order of their numbers.
-use Rattle.std.specs.Prelude.{◌≡◌, ℕ, ◌≤◌, Bool, true, false, ◌&&◌, List, [], ◌∷◌, map, filter, find, Option, Some, None, option_map}
-use Rattle.std.proofs.Common.{refl, sym, ap, subst, ◌∙◌, ⊎_elim}
+use Rattle.std.proofs.Common.{◌≡◌, ℕ, ◌≤◌, Bool, true, false, ◌&&◌, List, [], ◌∷◌, map, filter, find, Option, Some, None, option_map, refl, sym, ap, subst, ◌∙◌, ⊎_elim}
 use Rattle.std.proofs.lemmas.Bool.{and_parts, cases_Bool, cond_both}
-use Rattle.ci_machine.specs.declared.records.BoardRow.{BoardRow}
-use Rattle.ci_machine.specs.declared.records.Pipeline.{Pipeline}
-use Rattle.ci_machine.specs.declared.records.PipelineWithStatus.{PipelineWithStatus}
-use Rattle.ci_machine.specs.declared.records.Attempt.{Attempt}
-use Rattle.ci_machine.specs.declared.lease.Lease.{Lease}
-use Rattle.ci_machine.specs.declared.change.RowChange.{RowChange}
-use Rattle.ci_machine.specs.declared.request.Event.{Event}
-use Rattle.ci_machine.specs.declared.request.Event.TheVariants as event
-use Rattle.ci_machine.specs.declared.request.Seed.{Seed}
-use Rattle.ci_machine.specs.declared.reply.Answer.{Answer}
-use Rattle.ci_machine.specs.declared.reply.Answer.TheVariants as answer
-use Rattle.ci_machine.specs.declared.reply.Swept.{Swept}
-use Rattle.ci_machine.specs.State.{State}
-use Rattle.ci_machine.specs.Statuses.{AreBoard}
-use Rattle.ci_machine.specs.Leases.{is_live, cause_of, is_over, first_due}
-use Rattle.ci_machine_steps.specs.Sweeps.{sweep}
-use Rattle.ci_machine.specs.Redundant.{is_redundant}
-use Rattle.ci_machine_steps.specs.Step.{Happens, lease_of, leases, live_attempts, with_status, was_tried, redundant_in, cancellable_in}
-use Rattle.ci_machine_steps.specs.Laws.{is_due, NoneIsDue, is_redundant_in, IsLeastRedundant, NoneIsRedundant, SweepsLeast, IsSweptBy}
+use Rattle.ci_machine_steps.specs.Prelude.{BoardRow, Pipeline, PipelineWithStatus, Attempt, Lease, RowChange, Event, Seed, Answer, Swept, State, AreBoard, is_live, cause_of}
+use Rattle.ci_machine_steps.specs.Prelude.{is_over, first_due, sweep, is_redundant, Happens, lease_of, leases, live_attempts, with_status, was_tried, redundant_in, cancellable_in}
+use Rattle.ci_machine_steps.specs.Prelude.{is_due, NoneIsDue, is_redundant_in, IsLeastRedundant, NoneIsRedundant, SweepsLeast, IsSweptBy}
 use Rattle.ci_machine.proofs.Keyed.{Has, Rising, rising_filter, filter_has, has_filter, has_find, least_find, find-map, All-from_has, contains_from_has, has_map}
 
 pub find_none : {A : Type 0} (p : A → Bool) (x : A) (xs : List A) → find p xs ≡ None → Has x xs → p x ≡ false
@@ -97,8 +80,8 @@ swept_least s board now are pr r (Some l) found redundant is =
     }
 
 pub swept_by : (s : State) (board : List BoardRow) (e : Event) (now : ℕ) (seed : Seed) (a : Answer) (changes : List RowChange) → AreBoard s board → Rising (λ (w : Pipeline). w.id) 0 s.pipelines → Rising (λ (w : Attempt). w.id) 0 s.attempts → Happens s board e now seed a changes → IsSweptBy s now e a
-swept_by s board (event.Request request) now seed a changes are pr r is = tt
-swept_by s board event.Sweep now seed (answer.Swept swept) changes are pr r is =
+swept_by s board (Event.Request request) now seed a changes are pr r is = tt
+swept_by s board Event.Sweep now seed (Answer.Swept swept) changes are pr r is =
     let P : Swept × List RowChange → Type 0 = λ f. SweepsLeast s now f.0 in
     subst P (sym is) (swept_least s board now are pr r (first_due (leases s) now) refl (redundant_in s board) refl)
-swept_by s board event.Sweep now seed (answer.Reply reply) changes are pr r is = absurd is
+swept_by s board Event.Sweep now seed (Answer.Reply reply) changes are pr r is = absurd is

@@ -1,14 +1,8 @@
 -- Traces in every state that a history leads to.
-use Rattle.std.specs.Prelude.{◌≡◌, ◌⊎◌, ℕ, ◌<◌, ◌≤◌, ◌==◌, List, [], ◌∷◌, ◌++◌, if◌then◌else◌}
-use Rattle.std.proofs.Common.{refl, sym, ap, subst, ◌∙◌, inl, ⊎_elim, arith, eq-eqb}
+use Rattle.std.proofs.Common.{◌≡◌, ◌⊎◌, ℕ, ◌<◌, ◌≤◌, ◌==◌, List, [], ◌∷◌, ◌++◌, if◌then◌else◌, refl, sym, ap, subst, ◌∙◌, inl, ⊎_elim, arith, eq-eqb}
 use Rattle.std.proofs.lemmas.Bool.{cond-true, cond-false, ne_eqb}
 use Rattle.std.proofs.lemmas.List.{append-nil}
-use Rattle.ci_machine.specs.declared.records.Attempt.{Attempt}
-use Rattle.ci_machine.specs.declared.records.Trace.{Trace}
-use Rattle.ci_machine.specs.State.{State, empty, attempt_cmp, put, trace_in, with_bytes}
-use Rattle.ci_machine_steps.specs.Step.{trace_of}
-use Rattle.ci_machine_steps.specs.History.{Past}
-use Rattle.ci_machine_steps.specs.Laws.{accepted_bytes, all_accepted, IsTraced}
+use Rattle.ci_machine_steps.specs.Prelude.{Attempt, Trace, State, empty, attempt_cmp, put, trace_in, with_bytes, trace_of, Past, accepted_bytes, all_accepted, IsTraced}
 use Rattle.ci_machine.proofs.Keyed.{Has, Named, has_put_other, different}
 use Rattle.ci_machine_steps.proofs.Traces.{no_trace, its_trace, other_trace, traces_then}
 

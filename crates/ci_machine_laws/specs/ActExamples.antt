@@ -1,33 +1,9 @@
 -- Worked examples of what a user does to jobs, each one computed: they are cancelled, tried again, played.
 use Rattle.std.specs.Prelude.{ℕ, ◌+◌, ◌-◌, Bool, true, List, [], ◌∷◌, map, None, codes}
-use Rattle.ci_values.specs.declared.attempts.AttemptState.{AttemptState}
-use Rattle.ci_values.specs.declared.attempts.AttemptState.TheVariants.{Live, Succeeded, Failed}
-use Rattle.ci_values.specs.declared.attempts.Cause.TheVariants.{ScriptFailure}
-use Rattle.ci_values.specs.declared.when.When.{When}
-use Rattle.ci_values.specs.declared.when.When.TheVariants.{OnSuccess, OnFailure, Always, Manual}
-use Rattle.ci_values.specs.declared.when.AllowFailure.TheVariants.{Yes}
-use Rattle.ci_graph.specs.declared.part.Part.{Part}
-use Rattle.ci_graph.specs.JobGraph.{no_part}
-use Rattle.ci_board.specs.declared.facts.Row.{Row}
-use Rattle.ci_board.specs.declared.facts.Status.{Status}
-use Rattle.ci_board.specs.declared.facts.Status.TheVariants as status
-use Rattle.ci_machine.specs.declared.records.Pipeline.{Pipeline}
-use Rattle.ci_machine.specs.declared.records.RefKind.TheVariants.{Branch}
-use Rattle.ci_machine.specs.declared.records.Source.TheVariants.{Api}
-use Rattle.ci_machine.specs.declared.records.Job.{Job}
-use Rattle.ci_machine.specs.declared.records.Need.{Need}
-use Rattle.ci_machine.specs.declared.records.Attempt.{Attempt}
-use Rattle.ci_machine.specs.declared.records.BoardRow.{BoardRow}
-use Rattle.ci_machine.specs.declared.request.PipelineQuery.{PipelineQuery}
-use Rattle.ci_machine.specs.declared.change.RowChange.{RowChange}
-use Rattle.ci_machine.specs.State.{State, applied}
-use Rattle.ci_machine.specs.Statuses.{jobs_of, attempts_of, facts_of}
-use Rattle.ci_machine_steps.specs.Plans.{Plan}
-use Rattle.ci_machine.specs.Options.{plain_options}
-use Rattle.ci_machine_steps.specs.Shows.{job_shown, pipeline_shown}
-use Rattle.ci_machine_steps.specs.Plays.{play}
-use Rattle.ci_machine_steps.specs.Retries.{retry}
-use Rattle.ci_machine_steps.specs.Cancels.{cancellable_jobs, cancel}
+use Rattle.ci_machine_steps.specs.Prelude.{AttemptState, Live, Succeeded, ScriptFailure, When, OnSuccess, OnFailure, Always, Manual, Yes, Row, Status, Pipeline, Branch, Api, Job}
+use Rattle.ci_machine_steps.specs.Prelude.{Need, Attempt, BoardRow, PipelineQuery, RowChange, State, applied, jobs_of, attempts_of, facts_of, Plan, plain_options, job_shown}
+use Rattle.ci_machine_steps.specs.Prelude.{pipeline_shown, play, retry, cancellable_jobs, cancel}
+use Rattle.ci_machine.specs.Prelude.{Failed, Part, no_part}
 use Rattle.ci_machine_laws.specs.Examples.{attempt, job, leased, after}
 
 -- ---- pipelines by hand
@@ -98,10 +74,10 @@ four = has_jobs
     (tried 1 1 Live ∷ [])
 
 abbrev pub four_board : List BoardRow
-four_board = board_from 1 (row status.Running 0 0 0 ∷ row status.Manual 0 0 0 ∷ row status.Skipped 0 0 0 ∷ row status.Created 1 0 0 ∷ [])
+four_board = board_from 1 (row Status.Running 0 0 0 ∷ row Status.Manual 0 0 0 ∷ row Status.Skipped 0 0 0 ∷ row Status.Created 1 0 0 ∷ [])
 
 abbrev pub cancelled_rows : List Row
-cancelled_rows = row status.Canceled 0 0 0 ∷ row status.Canceled 0 0 0 ∷ row status.Skipped 0 0 0 ∷ row status.Canceled 0 0 1 ∷ []
+cancelled_rows = row Status.Canceled 0 0 0 ∷ row Status.Canceled 0 0 0 ∷ row Status.Skipped 0 0 0 ∷ row Status.Canceled 0 0 1 ∷ []
 
 abbrev pub all_cancelled : Plan
 all_cancelled = pipeline_after four (cancel four.attempts (cancellable_jobs four four_board 1)) cancelled_rows
@@ -111,10 +87,10 @@ cancel_marks s = map (λ j. j.cancelled) s.jobs
 
 -- `run` alone is cancelled, and `later` is skipped
 abbrev pub run_cancelled : Plan
-run_cancelled = job_after run (cancel four.attempts (run ∷ [])) status.Canceled
+run_cancelled = job_after run (cancel four.attempts (run ∷ [])) Status.Canceled
 
 abbrev pub run_cancelled_rows : List Row
-run_cancelled_rows = row status.Canceled 0 0 0 ∷ row status.Manual 0 0 0 ∷ row status.Skipped 0 0 0 ∷ row status.Skipped 0 0 1 ∷ []
+run_cancelled_rows = row Status.Canceled 0 0 0 ∷ row Status.Manual 0 0 0 ∷ row Status.Skipped 0 0 0 ∷ row Status.Skipped 0 0 1 ∷ []
 
 -- ---- a job is tried again, and jobs that were skipped are taken back
 
@@ -129,13 +105,13 @@ five = has_jobs
     (tried 1 1 (Failed ScriptFailure None) ∷ tried 2 2 (Succeeded None) ∷ [])
 
 abbrev pub five_board : List BoardRow
-five_board = board_from 1 (row status.Failed 0 0 0 ∷ row status.Success 0 1 0 ∷ row status.Pending 0 1 0 ∷ row status.Skipped 0 1 0 ∷ row status.Skipped 0 0 1 ∷ [])
+five_board = board_from 1 (row Status.Failed 0 0 0 ∷ row Status.Success 0 1 0 ∷ row Status.Pending 0 1 0 ∷ row Status.Skipped 0 1 0 ∷ row Status.Skipped 0 0 1 ∷ [])
 
 abbrev pub first_retried : Plan
-first_retried = job_after first (retry (attempts_of five 1) first) status.Pending
+first_retried = job_after first (retry (attempts_of five 1) first) Status.Pending
 
 abbrev pub retried_rows : List Row
-retried_rows = row status.Pending 0 0 0 ∷ row status.Success 1 0 0 ∷ row status.Created 1 0 0 ∷ row status.Created 1 0 0 ∷ row status.Created 1 0 0 ∷ []
+retried_rows = row Status.Pending 0 0 0 ∷ row Status.Success 1 0 0 ∷ row Status.Created 1 0 0 ∷ row Status.Created 1 0 0 ∷ row Status.Created 1 0 0 ∷ []
 
 -- ---- a job is played
 
@@ -150,24 +126,24 @@ abbrev pub two : State
 two = has_jobs (hand ∷ ship ∷ []) (need 2 1 ∷ []) []
 
 abbrev pub two_board : List BoardRow
-two_board = board_from 1 (row status.Manual 0 0 0 ∷ row status.Pending 0 0 0 ∷ [])
+two_board = board_from 1 (row Status.Manual 0 0 0 ∷ row Status.Pending 0 0 0 ∷ [])
 
 abbrev pub hand_played : Plan
-hand_played = job_after hand (play hand) status.Pending
+hand_played = job_after hand (play hand) Status.Pending
 
 abbrev pub played_rows : List Row
-played_rows = row status.Pending 0 0 0 ∷ row status.Created 1 0 0 ∷ []
+played_rows = row Status.Pending 0 0 0 ∷ row Status.Created 1 0 0 ∷ []
 
 -- then it succeeds
 abbrev pub succeeded : State
 succeeded = record (after hand_played two) { attempts = tried 1 1 (Succeeded None) ∷ [] }
 
 abbrev pub succeeded_board : List BoardRow
-succeeded_board = board_from 1 (row status.Success 0 0 0 ∷ row status.Pending 0 0 0 ∷ [])
+succeeded_board = board_from 1 (row Status.Success 0 0 0 ∷ row Status.Pending 0 0 0 ∷ [])
 
 -- and is tried again: it was played, and waits for no user
 abbrev pub played_hand : Job
 played_hand = record hand { played = true }
 
 abbrev pub hand_retried : Plan
-hand_retried = job_after played_hand (retry (attempts_of succeeded 1) played_hand) status.Pending
+hand_retried = job_after played_hand (retry (attempts_of succeeded 1) played_hand) Status.Pending

@@ -2,53 +2,14 @@
 use Rattle.std.specs.Prelude.{ℕ, true, false, List, [], ◌∷◌, length, map, filter, Option, Some, None, Result, Ok, codes, replicate}
 use Rattle.std.specs.List.{flat_map}
 use Rattle.std.specs.Str.{bytes_eq}
-use Rattle.ci_board.specs.declared.facts.Status.{Status}
-use Rattle.ci_board.specs.declared.facts.Status.TheVariants.{Pending}
-use Rattle.ci_board.specs.declared.facts.Row.{Row}
-use Rattle.ci_board.specs.Rows.{no_row}
-use Rattle.ci_values.specs.Layers.{Variables}
-use Rattle.ci_config.specs.Config.{Config}
-use Rattle.ci_graph_layout.specs.Inclusion.{Given, layered, included}
-use Rattle.ci_graph_layout.specs.Layout.{put, lineup, pairs}
+use Rattle.ci_machine_steps.specs.Prelude.{Status, Pending, Row, no_row, Variables, BoardRow, Lease, Project, Variable, Job, Branch, Api, Attempt, AttemptState, Live, NewRunner}
+use Rattle.ci_machine_steps.specs.Prelude.{NewFile, NewVariable, PipelineVariable, NewPipeline, Report, JobQuery, Seed, RowChange, Put, Record, Code, Swept, body_text, State}
+use Rattle.ci_machine_steps.specs.Prelude.{empty, applied, status_for, claims_in, Plan, add_project, add_runner, plain_options, given_by, Layout, merged, Creation, creation}
+use Rattle.ci_machine_steps.specs.Prelude.{creation_changes, pipeline_created, ask_job, update_job, append_trace, show_job, show_trace, project_with, project_named}
+use Rattle.ci_machine_steps.specs.Prelude.{project_variables, runner_with, pipeline_of, job_at, pipeline_or_none, last_attempt, trace_of, trace_if_any, lease_at, offer}
+use Rattle.ci_machine_steps.specs.Prelude.{offered_variables, sweep_in}
+use Rattle.ci_graph_layout.specs.Prelude.{Config, Given, layered, included, put, lineup, pairs, file}
 use Rattle.ci_graph_layout.specs.Examples as layout
-use Rattle.ci_graph_layout.specs.Examples.{file}
-use Rattle.ci_machine.specs.declared.records.BoardRow.{BoardRow}
-use Rattle.ci_machine.specs.declared.lease.Lease.{Lease}
-use Rattle.ci_machine.specs.declared.records.Project.{Project}
-use Rattle.ci_machine.specs.declared.records.Variable.{Variable}
-use Rattle.ci_machine.specs.declared.records.Job.{Job}
-use Rattle.ci_machine.specs.declared.records.RefKind.TheVariants.{Branch}
-use Rattle.ci_machine.specs.declared.records.Source.TheVariants.{Api}
-use Rattle.ci_machine.specs.declared.records.Attempt.{Attempt}
-use Rattle.ci_values.specs.declared.attempts.AttemptState.{AttemptState}
-use Rattle.ci_values.specs.declared.attempts.AttemptState.TheVariants.{Live}
-use Rattle.ci_machine.specs.declared.request.NewRunner.{NewRunner}
-use Rattle.ci_machine.specs.declared.request.NewFile.{NewFile}
-use Rattle.ci_machine.specs.declared.request.NewVariable.{NewVariable}
-use Rattle.ci_machine.specs.declared.request.PipelineVariable.{PipelineVariable}
-use Rattle.ci_machine.specs.declared.request.NewPipeline.{NewPipeline}
-use Rattle.ci_machine.specs.declared.request.Report.{Report}
-use Rattle.ci_machine.specs.declared.request.JobQuery.{JobQuery}
-use Rattle.ci_machine.specs.declared.request.Seed.{Seed}
-use Rattle.ci_machine.specs.declared.change.RowChange.{RowChange}
-use Rattle.ci_machine.specs.declared.change.RowChange.TheVariants.{Put}
-use Rattle.ci_machine.specs.declared.change.Record.TheVariants as row
-use Rattle.ci_machine.specs.declared.reply.Code.{Code}
-use Rattle.ci_machine.specs.declared.reply.Swept.{Swept}
-use Rattle.ci_machine.specs.Reply.{body_text}
-use Rattle.ci_machine.specs.State.{State, empty, applied}
-use Rattle.ci_machine.specs.Statuses.{status_for}
-use Rattle.ci_machine.specs.Waiting.{claims_in}
-use Rattle.ci_machine_steps.specs.Plans.{Plan}
-use Rattle.ci_machine_steps.specs.Projects.{add_project}
-use Rattle.ci_machine_steps.specs.Runners.{add_runner}
-use Rattle.ci_machine.specs.Options.{plain_options}
-use Rattle.ci_machine_steps.specs.Pipelines.{given_by, Layout, merged, Creation, creation, creation_changes, pipeline_created}
-use Rattle.ci_machine_steps.specs.Grants.{ask_job}
-use Rattle.ci_machine_steps.specs.Reports.{update_job}
-use Rattle.ci_machine_steps.specs.Traces.{append_trace}
-use Rattle.ci_machine_steps.specs.Shows.{show_job, show_trace}
-use Rattle.ci_machine_steps.specs.Step.{project_with, project_named, project_variables, runner_with, pipeline_of, job_at, pipeline_or_none, last_attempt, trace_of, trace_if_any, lease_at, offer, offered_variables, sweep_in}
 
 -- sixteen bytes ab
 abbrev pub seed : Seed
@@ -160,7 +121,7 @@ abbrev pub hundred : List ℕ → List Variable
 hundred name = old_variable name ∷ replicate 99 (old_variable (codes "B"))
 
 abbrev pub put_variable : List ℕ → List RowChange
-put_variable name = Put (row.Variable (record { project = 1; key = name; value = codes "v" })) ∷ []
+put_variable name = Put (Record.Variable (record { project = 1; key = name; value = codes "v" })) ∷ []
 
 -- ---- the layers of variables: `CI_JOB_STAGE` of a job in `test`
 

@@ -1,25 +1,7 @@
 -- Worked examples of process modes, each one computed: which job of a resource group is offered, and which ones wait.
 use Rattle.std.specs.Prelude.{ℕ, false, List, [], ◌∷◌, Option, Some, None, option_map, codes}
-use Rattle.ci_values.specs.declared.attempts.AttemptState.{AttemptState}
-use Rattle.ci_values.specs.declared.attempts.AttemptState.TheVariants.{Succeeded}
-use Rattle.ci_board.specs.declared.facts.Status.{Status}
-use Rattle.ci_board.specs.declared.facts.Status.TheVariants as status
-use Rattle.ci_machine.specs.declared.records.Pipeline.{Pipeline}
-use Rattle.ci_machine.specs.declared.records.Job.{Job}
-use Rattle.ci_machine.specs.declared.records.Attempt.{Attempt}
-use Rattle.ci_machine.specs.declared.records.GroupMode.{GroupMode}
-use Rattle.ci_machine.specs.declared.records.GroupOrder.{GroupOrder}
-use Rattle.ci_machine.specs.declared.records.BoardRow.{BoardRow}
-use Rattle.ci_machine.specs.declared.request.NewMode.{NewMode}
-use Rattle.ci_machine.specs.declared.change.RowChange.{RowChange}
-use Rattle.ci_machine.specs.declared.change.RowChange.TheVariants.{Put, Remove}
-use Rattle.ci_machine.specs.declared.change.Record.TheVariants as row_of
-use Rattle.ci_machine.specs.declared.change.Key.TheVariants as key
-use Rattle.ci_machine.specs.State.{State}
-use Rattle.ci_machine.specs.Groups.{order_of}
-use Rattle.ci_machine_steps.specs.Plans.{Plan, asked_project}
-use Rattle.ci_machine_steps.specs.Modes.{show_mode}
-use Rattle.ci_machine_steps.specs.Step.{project_with, offer}
+use Rattle.ci_machine_steps.specs.Prelude.{AttemptState, Succeeded, Status, Pipeline, Job, Attempt, GroupMode, GroupOrder, BoardRow, NewMode, RowChange, Put, Remove, Record, Key}
+use Rattle.ci_machine_steps.specs.Prelude.{State, order_of, Plan, asked_project, show_mode, project_with, offer}
 use Rattle.ci_machine_laws.specs.Examples.{job, leased}
 use Rattle.ci_machine_laws.specs.ActExamples.{its_pipeline, need, tried, row, board_from}
 use Rattle.ci_machine_laws.specs.WaitingExamples.{some_runner, ship_options, ship}
@@ -33,10 +15,10 @@ abbrev pub prod_in : ℕ → GroupOrder → List GroupMode
 prod_in project order = record { project = project; group = codes "prod"; order = order } ∷ []
 
 abbrev pub has_order : GroupOrder → List RowChange
-has_order order = Put (row_of.Mode (record { project = 1; group = codes "prod"; order = order })) ∷ []
+has_order order = Put (Record.Mode (record { project = 1; group = codes "prod"; order = order })) ∷ []
 
 abbrev pub has_none : List RowChange
-has_none = Remove (key.Mode 1 (codes "prod")) ∷ []
+has_none = Remove (Key.Mode 1 (codes "prod")) ∷ []
 
 -- what is answered where its mode is asked for
 abbrev pub mode_shown : State → Plan
@@ -64,7 +46,7 @@ three modes attempts = record leased {
 
 -- the first two are pending, and the third has this status
 abbrev pub third_is : Status → List BoardRow
-third_is last = board_from 1 (row status.Pending 0 0 0 ∷ row status.Pending 0 0 0 ∷ row last 0 0 0 ∷ [])
+third_is last = board_from 1 (row Status.Pending 0 0 0 ∷ row Status.Pending 0 0 0 ∷ row last 0 0 0 ∷ [])
 
 -- the third is granted, and then it succeeds
 abbrev pub third_tried : AttemptState → List Attempt
@@ -91,8 +73,8 @@ pairs modes first = record leased {
 
 -- the first runs, so that its `ship` is created
 abbrev pub pairs_running : List BoardRow
-pairs_running = board_from 1 (row status.Running 0 0 0 ∷ row status.Created 1 0 0 ∷ row status.Success 0 0 0 ∷ row status.Pending 0 0 0 ∷ [])
+pairs_running = board_from 1 (row Status.Running 0 0 0 ∷ row Status.Created 1 0 0 ∷ row Status.Success 0 0 0 ∷ row Status.Pending 0 0 0 ∷ [])
 
 -- it has succeeded, and both `ship` are pending
 abbrev pub pairs_done : List BoardRow
-pairs_done = board_from 1 (row status.Success 0 0 0 ∷ row status.Pending 0 0 0 ∷ row status.Success 0 0 0 ∷ row status.Pending 0 0 0 ∷ [])
+pairs_done = board_from 1 (row Status.Success 0 0 0 ∷ row Status.Pending 0 0 0 ∷ row Status.Success 0 0 0 ∷ row Status.Pending 0 0 0 ∷ [])

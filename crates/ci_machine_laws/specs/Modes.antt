@@ -1,8 +1,6 @@
 -- What a request does that sets the process mode of a resource group.
 use Rattle.std.specs.Prelude.{◌≡◌, ℕ, List}
-use Rattle.ci_machine.specs.declared.request.NewMode.{NewMode}
-use Rattle.ci_machine.specs.State.{State}
-use Rattle.ci_machine.specs.Groups.{order_of}
+use Rattle.ci_machine_steps.specs.Prelude.{NewMode, State, order_of}
 
 -- From the one state to the other nothing changes but the modes: the resource group has the mode that was asked for, and each other group of
 -- that project, or of another, the one that it had.

@@ -1,18 +1,7 @@
 -- A runner asks for a job, and there is none for it: why each pending job isn't one that it may be given.
 use Rattle.std.specs.Prelude.{◌≡◌, ◌⊎◌, ◌<◌, ℕ, true, false, List, [], All, Contains, Some}
-use Rattle.ci_board.specs.declared.facts.Status.TheVariants.{Created, Pending}
-use Rattle.ci_machine.specs.declared.records.Attempt.{Attempt}
-use Rattle.ci_machine.specs.declared.records.BoardRow.{BoardRow}
-use Rattle.ci_machine.specs.declared.records.GroupOrder.TheVariants.{OldestFirst, NewestReadyFirst}
-use Rattle.ci_machine.specs.declared.records.Job.{Job}
-use Rattle.ci_machine.specs.declared.records.Pipeline.{Pipeline}
-use Rattle.ci_machine.specs.declared.records.Runner.{Runner}
-use Rattle.ci_machine.specs.State.{State}
-use Rattle.ci_machine.specs.Statuses.{status_for}
-use Rattle.ci_machine.specs.Leases.{is_live}
-use Rattle.ci_machine.specs.Groups.{order_of}
-use Rattle.ci_machine_steps.specs.Step.{is_pending}
-use Rattle.ci_machine_steps.specs.OneBoard.{HasOneBoard}
+use Rattle.ci_machine_steps.specs.Prelude.{Created, Pending, Attempt, BoardRow, OldestFirst, NewestReadyFirst, Job, Pipeline, Runner, State, status_for, is_live, order_of}
+use Rattle.ci_machine_steps.specs.Prelude.{is_pending, HasOneBoard}
 
 -- the job's pipeline is one of this project
 abbrev pub IsOfProject : State → ℕ → Job → Type 0

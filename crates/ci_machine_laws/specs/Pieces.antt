@@ -1,10 +1,6 @@
 -- What an accepted piece of a trace does.
 use Rattle.std.specs.Prelude.{◌≡◌, ℕ, ◌++◌, ◌≤◌, length, Some}
-use Rattle.ci_machine.specs.declared.limits.TheConstants.{MAX_TRACE_BYTES}
-use Rattle.ci_machine.specs.declared.request.TracePart.{TracePart}
-use Rattle.ci_machine.specs.declared.reply.Reply.{Reply}
-use Rattle.ci_machine.specs.State.{State}
-use Rattle.ci_machine_steps.specs.Step.{trace_of}
+use Rattle.ci_machine_steps.specs.Prelude.{MAX_TRACE_BYTES, TracePart, Reply, State, trace_of}
 
 -- From the one state to the other the piece goes behind the trace of its attempt, at whose end it begins; the reply tells the size that the
 -- trace has then; and each other trace stays.

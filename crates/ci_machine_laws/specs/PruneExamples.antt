@@ -1,19 +1,6 @@
 -- Worked examples of pipelines that are pruned, each one computed.
 use Rattle.std.specs.Prelude.{ℕ, List, [], ◌∷◌, Some, None, codes}
-use Rattle.ci_values.specs.declared.attempts.AttemptState.TheVariants.{Live, Succeeded}
-use Rattle.ci_board.specs.declared.facts.Row.{Row}
-use Rattle.ci_board.specs.declared.facts.Status.{Status}
-use Rattle.ci_board.specs.declared.facts.Status.TheVariants as status
-use Rattle.ci_machine.specs.declared.records.Pipeline.{Pipeline}
-use Rattle.ci_machine.specs.declared.records.Job.{Job}
-use Rattle.ci_machine.specs.declared.records.JobVariable.{JobVariable}
-use Rattle.ci_machine.specs.declared.records.Attempt.{Attempt}
-use Rattle.ci_machine.specs.declared.records.Trace.{Trace}
-use Rattle.ci_machine.specs.declared.records.BoardRow.{BoardRow}
-use Rattle.ci_machine.specs.State.{State, first_numbers}
-use Rattle.ci_machine.specs.Statuses.{jobs_of}
-use Rattle.ci_machine_steps.specs.Plans.{Plan}
-use Rattle.ci_machine_steps.specs.Prunes.{prune}
+use Rattle.ci_machine_steps.specs.Prelude.{Live, Succeeded, Row, Status, Pipeline, Job, JobVariable, Attempt, Trace, BoardRow, State, first_numbers, jobs_of, Plan, prune}
 use Rattle.ci_machine_laws.specs.Examples.{job, leased}
 use Rattle.ci_machine_laws.specs.ActExamples.{its_pipeline, need, tried, row, board_from}
 
@@ -57,7 +44,7 @@ both_done = record leased {
 }
 
 abbrev pub done_row : Row
-done_row = row status.Success 0 0 0
+done_row = row Status.Success 0 0 0
 
 abbrev pub both_board : List BoardRow
 both_board = board_from 1 (done_row ∷ done_row ∷ done_row ∷ [])

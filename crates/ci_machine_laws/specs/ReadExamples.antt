@@ -1,30 +1,9 @@
 -- Worked examples of what is read of a project and of what it has, each one computed.
 use Rattle.std.specs.Prelude.{ℕ, zero, suc, true, false, List, [], ◌∷◌, ◌++◌, map, Option, Some, None, codes}
-use Rattle.ci_values.specs.declared.attempts.AttemptState.{AttemptState}
-use Rattle.ci_values.specs.declared.attempts.AttemptState.TheVariants.{Live, Succeeded, Failed, Cancelled}
-use Rattle.ci_values.specs.declared.attempts.Cause.TheVariants.{ScriptFailure, JobExecutionTimeout}
-use Rattle.ci_values.specs.declared.when.When.TheVariants.{Always}
-use Rattle.ci_values.specs.declared.when.AllowFailure.TheVariants.{Yes}
-use Rattle.ci_graph.specs.declared.part.Part.{Part}
-use Rattle.ci_graph.specs.JobGraph.{no_part}
-use Rattle.ci_board.specs.declared.facts.Status.TheVariants as status
-use Rattle.ci_machine.specs.declared.records.BoardRow.{BoardRow}
-use Rattle.ci_machine.specs.declared.records.Pipeline.{Pipeline}
-use Rattle.ci_machine.specs.declared.records.RefKind.TheVariants.{Branch, Tag}
-use Rattle.ci_machine.specs.declared.records.Source.TheVariants.{Push, Web, Api}
-use Rattle.ci_machine.specs.declared.records.Job.{Job}
-use Rattle.ci_machine.specs.declared.records.JobOptions.{JobOptions}
-use Rattle.ci_machine.specs.declared.records.Attempt.{Attempt}
-use Rattle.ci_machine.specs.declared.records.GroupMode.{GroupMode}
-use Rattle.ci_machine.specs.declared.records.GroupOrder.{GroupOrder}
-use Rattle.ci_machine.specs.declared.records.GroupOrder.TheVariants.{OldestFirst, NewestReadyFirst}
-use Rattle.ci_machine.specs.declared.request.ReadQuery.{ReadQuery}
-use Rattle.ci_machine.specs.declared.request.Subject.{Subject}
-use Rattle.ci_machine.specs.Options.{plain_options}
-use Rattle.ci_machine.specs.State.{State, empty}
-use Rattle.ci_machine_steps.specs.Plans.{Plan, asked_project}
-use Rattle.ci_machine_steps.specs.Step.{project_with}
-use Rattle.ci_machine_steps.specs.Reads.{listed_pipelines, read}
+use Rattle.ci_machine_steps.specs.Prelude.{AttemptState, Live, Succeeded, Cancelled, ScriptFailure, JobExecutionTimeout, Always, Yes, Status, BoardRow, Pipeline, Branch, Tag, Push}
+use Rattle.ci_machine_steps.specs.Prelude.{Web, Api, Job, JobOptions, Attempt, GroupMode, GroupOrder, OldestFirst, NewestReadyFirst, ReadQuery, Subject, plain_options, State}
+use Rattle.ci_machine_steps.specs.Prelude.{empty, Plan, asked_project, project_with, listed_pipelines, read}
+use Rattle.ci_machine.specs.Prelude.{Failed, Part, no_part}
 use Rattle.ci_machine_laws.specs.ActExamples.{its_pipeline, by_hand, need, row, board_from}
 
 -- ---- jobs and attempts
@@ -99,13 +78,13 @@ two_projects = record empty {
 -- the rows of its jobs
 abbrev pub two_projects_board : List BoardRow
 two_projects_board = board_from 1 (
-    row status.Success 0 0 0
-    ∷ row status.Failed 0 0 0
-    ∷ row status.Running 0 0 0
-    ∷ row status.Running 0 0 0
-    ∷ row status.Running 0 0 0
-    ∷ row status.Pending 0 0 0
-    ∷ row status.Created 2 0 0
+    row Status.Success 0 0 0
+    ∷ row Status.Failed 0 0 0
+    ∷ row Status.Running 0 0 0
+    ∷ row Status.Running 0 0 0
+    ∷ row Status.Running 0 0 0
+    ∷ row Status.Pending 0 0 0
+    ∷ row Status.Created 2 0 0
     ∷ [])
 
 -- ---- what is read

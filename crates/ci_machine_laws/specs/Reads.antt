@@ -4,21 +4,8 @@ use Rattle.std.specs.Ordering.{nat_cmp}
 use Rattle.std.specs.Cmp.Lexicographic.{slice_cmp}
 use Rattle.std.specs.List.Sorted.{IsStrictlySortedBy}
 use Rattle.serde_json.specs.Written.{compact_text}
-use Rattle.ci_machine.specs.declared.limits.TheConstants.{LISTED_PIPELINES}
-use Rattle.ci_machine.specs.declared.records.Pipeline.{Pipeline}
-use Rattle.ci_machine.specs.declared.records.BoardRow.{BoardRow}
-use Rattle.ci_machine.specs.declared.records.Attempt.{Attempt}
-use Rattle.ci_machine.specs.declared.records.GroupMode.{GroupMode}
-use Rattle.ci_machine.specs.declared.reply.Reply.{Reply}
-use Rattle.ci_machine.specs.declared.reply.Body.TheVariants.{Json}
-use Rattle.ci_machine.specs.State.{State}
-use Rattle.ci_machine.specs.Statuses.{AreBoard}
-use Rattle.ci_machine.specs.Indexes.{with_status}
-use Rattle.ci_machine.specs.Leases.{is_live}
-use Rattle.ci_machine.specs.Groups.{order_of}
-use Rattle.ci_machine.specs.Holders.{is_in_group}
-use Rattle.ci_machine.specs.Listings.{listed, listed_pipeline_data, group_data}
-use Rattle.ci_machine_steps.specs.Reads.{holding_job}
+use Rattle.ci_machine_steps.specs.Prelude.{LISTED_PIPELINES, Pipeline, BoardRow, Attempt, GroupMode, Reply, Json, State, AreBoard, with_status, is_live, order_of, is_in_group}
+use Rattle.ci_machine_steps.specs.Prelude.{listed, listed_pipeline_data, group_data, holding_job}
 
 -- The pipelines are the newest of a project: each is one of the state's, of this project; their numbers fall; and each other pipeline of the
 -- project has a lesser number than all of them, which are a hundred then.

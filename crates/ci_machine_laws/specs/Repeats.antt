@@ -1,32 +1,18 @@
 -- What a runner sends again, as it does where a reply was lost: it changes nothing, and what it is answered then.
 use Rattle.std.specs.Prelude.{◌≡◌, ◌⊎◌, ℕ, Bool, true, false, List, [], ◌∷◌, map, All, Contains}
-use Rattle.ci_machine.specs.declared.records.Attempt.{Attempt}
-use Rattle.ci_machine.specs.declared.request.Event.{Event}
-use Rattle.ci_machine.specs.declared.request.Event.TheVariants as event
-use Rattle.ci_machine.specs.declared.request.Request.TheVariants.{UpdateJob, AppendTrace}
-use Rattle.ci_machine.specs.declared.request.JobUpdate.{JobUpdate}
-use Rattle.ci_machine.specs.declared.request.Report.{Report}
-use Rattle.ci_machine.specs.declared.request.Report.TheVariants as report
-use Rattle.ci_machine.specs.declared.reply.Answer.TheVariants as answer
-use Rattle.ci_machine.specs.declared.reply.Code.TheVariants.{M5}
-use Rattle.ci_machine.specs.declared.reply.HttpStatus.TheVariants.{Fine}
-use Rattle.ci_machine.specs.declared.reply.Reply.{Reply}
-use Rattle.ci_machine.specs.Reply.{refusal}
-use Rattle.ci_machine.specs.State.{State}
-use Rattle.ci_machine_steps.specs.History.{Past}
-use Rattle.ci_machine_steps.specs.Laws.{WentWithItsJob}
+use Rattle.ci_machine_steps.specs.Prelude.{Attempt, Event, UpdateJob, AppendTrace, JobUpdate, Report, Answer, M5, Fine, Reply, refusal, State, Past, WentWithItsJob}
 
 -- a runner says how an attempt stands (PUT), or sends the next bytes of its trace (PATCH)
 abbrev pub is_of_runner : Event → Bool
-is_of_runner (event.Request (UpdateJob update)) = true
-is_of_runner (event.Request (AppendTrace part)) = true
+is_of_runner (Event.Request (UpdateJob update)) = true
+is_of_runner (Event.Request (AppendTrace part)) = true
 is_of_runner _ = false
 
 -- a final state
 abbrev pub is_final : Report → Bool
-is_final report.Running = false
-is_final (report.Success exit) = true
-is_final (report.Failed cause exit) = true
+is_final Report.Running = false
+is_final (Report.Success exit) = true
+is_final (Report.Failed cause exit) = true
 
 -- ---- sent twice at one moment
 
@@ -50,10 +36,10 @@ TwiceIsOnce earlier again s = WasJustSent earlier again.before again.event again
 -- by the line a runner sent a final state of an attempt, and was answered 200
 pub record IsTakenEnd (line : Past) : Type 0 where
   pub update : JobUpdate
-  pub sent : line.event ≡ event.Request (UpdateJob update)
+  pub sent : line.event ≡ Event.Request (UpdateJob update)
   pub final : is_final update.report ≡ true
   pub reply : Reply
-  pub answered : line.answer ≡ answer.Reply reply
+  pub answered : line.answer ≡ Answer.Reply reply
   pub fine : reply.status ≡ Fine
 
 -- the attempt n is in the state
@@ -65,7 +51,7 @@ pub data IsAnsweredAgain (h : List Past) (first again : Past) (n : ℕ) : Type 0
   -- the same, while the attempt is there
   while_there : IsThere n again.before → again.answer ≡ first.answer → IsAnsweredAgain h first again n
   -- M5, once the attempt went with its pipeline, which a line of the history pruned
-  once_pruned : (a : Attempt) → a.id ≡ n → WentWithItsJob h a → (IsThere n again.before → ⊥) → again.answer ≡ answer.Reply (refusal M5) → IsAnsweredAgain h first again n
+  once_pruned : (a : Attempt) → a.id ≡ n → WentWithItsJob h a → (IsThere n again.before → ⊥) → again.answer ≡ Answer.Reply (refusal M5) → IsAnsweredAgain h first again n
 
 -- where some line before it is the same final state, and was answered 200, a line changes nothing, whatever came between them
 abbrev pub EndsOnce : List Past → Past → State → Type 0

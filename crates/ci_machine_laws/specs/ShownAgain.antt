@@ -1,10 +1,6 @@
 -- Which requests act on a job, and how a pipeline that was made is asked for.
 use Rattle.std.specs.Prelude.{◌≡◌, ℕ}
-use Rattle.ci_machine.specs.declared.request.JobQuery.{JobQuery}
-use Rattle.ci_machine.specs.declared.request.NewPipeline.{NewPipeline}
-use Rattle.ci_machine.specs.declared.request.PipelineQuery.{PipelineQuery}
-use Rattle.ci_machine.specs.declared.request.Request.{Request}
-use Rattle.ci_machine.specs.declared.request.Request.TheVariants.{Play, CancelJob, RetryJob}
+use Rattle.ci_machine_steps.specs.Prelude.{JobQuery, NewPipeline, PipelineQuery, Request, Play, CancelJob, RetryJob}
 
 -- the request plays the job that the query names, cancels it or tries it again
 abbrev pub ActsOnJob : JobQuery → Request → Type 0

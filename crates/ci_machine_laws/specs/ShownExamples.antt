@@ -1,19 +1,7 @@
 -- Worked examples of what is shown after a user's act of a job with a resource group, each one computed.
 use Rattle.std.specs.Prelude.{false, List, [], ◌∷◌, None}
-use Rattle.ci_values.specs.declared.attempts.AttemptState.TheVariants.{Succeeded}
-use Rattle.ci_board.specs.declared.facts.Status.{Status}
-use Rattle.ci_board.specs.declared.facts.Status.TheVariants as status
-use Rattle.ci_machine.specs.declared.records.BoardRow.{BoardRow}
-use Rattle.ci_machine.specs.declared.records.GroupOrder.TheVariants.{OldestFirst}
-use Rattle.ci_machine.specs.declared.records.Job.{Job}
-use Rattle.ci_machine.specs.declared.change.RowChange.{RowChange}
-use Rattle.ci_machine.specs.State.{State, applied}
-use Rattle.ci_machine.specs.Statuses.{attempts_of, status_for}
-use Rattle.ci_machine.specs.Waiting.{claims_in}
-use Rattle.ci_machine_steps.specs.Plans.{Plan}
-use Rattle.ci_machine_steps.specs.Shows.{job_shown}
-use Rattle.ci_machine_steps.specs.Cancels.{cancel}
-use Rattle.ci_machine_steps.specs.Retries.{retry}
+use Rattle.ci_machine_steps.specs.Prelude.{Succeeded, Status, BoardRow, OldestFirst, Job, RowChange, State, applied, attempts_of, status_for, claims_in, Plan, job_shown, cancel}
+use Rattle.ci_machine_steps.specs.Prelude.{retry}
 use Rattle.ci_machine_laws.specs.ActExamples.{row, board_from}
 use Rattle.ci_machine_laws.specs.WaitingExamples.{ship}
 use Rattle.ci_machine_laws.specs.ModeExamples.{prod_in, three, third_tried}
@@ -31,15 +19,15 @@ abbrev pub oldest : State
 oldest = three (prod_in 1 OldestFirst) []
 
 abbrev pub all_wait : List BoardRow
-all_wait = three_rows status.Pending status.Pending status.Pending
+all_wait = three_rows Status.Pending Status.Pending Status.Pending
 
 -- the job 2 is cancelled
 abbrev pub second_cancelled : Plan
-second_cancelled = shown_after oldest (three_rows status.Pending status.Canceled status.Pending) (ship false 2) (cancel oldest.attempts (ship false 2 ∷ []))
+second_cancelled = shown_after oldest (three_rows Status.Pending Status.Canceled Status.Pending) (ship false 2) (cancel oldest.attempts (ship false 2 ∷ []))
 
 -- or the job 1 is, for which the others wait
 abbrev pub first_cancelled : Plan
-first_cancelled = shown_after oldest (three_rows status.Canceled status.Pending status.Pending) (ship false 1) (cancel oldest.attempts (ship false 1 ∷ []))
+first_cancelled = shown_after oldest (three_rows Status.Canceled Status.Pending Status.Pending) (ship false 1) (cancel oldest.attempts (ship false 1 ∷ []))
 
 -- the job 3 succeeded, and is tried again
 abbrev pub third_done : State

@@ -1,12 +1,6 @@
 -- A worked example of sweeps at one moment, each one computed: a lease that is over, and a pipeline that a newer one makes redundant.
 use Rattle.std.specs.Prelude.{ℕ, true, List, [], ◌∷◌, codes}
-use Rattle.ci_values.specs.declared.attempts.AttemptState.TheVariants.{Live}
-use Rattle.ci_board.specs.declared.facts.Status.{Status}
-use Rattle.ci_board.specs.declared.facts.Status.TheVariants as status
-use Rattle.ci_machine.specs.declared.records.BoardRow.{BoardRow}
-use Rattle.ci_machine.specs.declared.records.Job.{Job}
-use Rattle.ci_machine.specs.State.{State, first_numbers}
-use Rattle.ci_machine.specs.Options.{plain_options}
+use Rattle.ci_machine_steps.specs.Prelude.{Live, Status, BoardRow, Job, State, first_numbers, plain_options}
 use Rattle.ci_machine_laws.specs.Examples.{job, leased, after, swept}
 use Rattle.ci_machine_laws.specs.ActExamples.{its_pipeline, tried, row, board_from}
 use Rattle.ci_machine_laws.specs.WaitingExamples.{second}
@@ -26,11 +20,11 @@ overtaken = record leased {
 
 -- the jobs 1 and 2 have these statuses, and the job 3 is pending
 abbrev pub third_waits : Status → Status → List BoardRow
-third_waits one two = board_from 1 (row one 0 0 0 ∷ row two 0 0 0 ∷ row status.Pending 0 0 0 ∷ [])
+third_waits one two = board_from 1 (row one 0 0 0 ∷ row two 0 0 0 ∷ row Status.Pending 0 0 0 ∷ [])
 
 -- swept once, and twice, at 1120
 abbrev pub swept_once : State
-swept_once = after (swept overtaken (third_waits status.Running status.Pending) 1120) overtaken
+swept_once = after (swept overtaken (third_waits Status.Running Status.Pending) 1120) overtaken
 
 abbrev pub swept_twice : State
-swept_twice = after (swept swept_once (third_waits status.Failed status.Pending) 1120) swept_once
+swept_twice = after (swept swept_once (third_waits Status.Failed Status.Pending) 1120) swept_once

@@ -1,8 +1,6 @@
 -- Lines of an earlier program that changed nothing.
 use Rattle.std.specs.Prelude.{◌≡◌, ◌⊎◌, List, [], ◌∷◌}
-use Rattle.ci_machine.specs.State.{State, empty}
-use Rattle.ci_machine_steps.specs.History.{Past}
-use Rattle.ci_machine_steps.specs.Step.{Step}
+use Rattle.ci_machine_steps.specs.Prelude.{State, empty, Past, Step}
 
 -- Lines, the newest first, lead from the empty state to this one, each of them by a step of the machine, or it left the state as it was, as a
 -- refusal does. What such a line was answered is open: so it may be one that this machine wouldn't give.

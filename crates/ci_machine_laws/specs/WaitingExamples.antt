@@ -1,22 +1,8 @@
 -- Worked examples of who is given a job, and when, each one computed: tags, paused runners, resource groups, time limits, and pipelines
 -- that a newer one makes redundant.
 use Rattle.std.specs.Prelude.{ℕ, Bool, true, false, List, [], ◌∷◌, Option, Some, None, codes}
-use Rattle.ci_board.specs.declared.facts.Status.{Status}
-use Rattle.ci_board.specs.declared.facts.Status.TheVariants as status
-use Rattle.ci_board.specs.Rows.{no_row}
-use Rattle.ci_machine.specs.declared.records.Runner.{Runner}
-use Rattle.ci_machine.specs.declared.records.Pipeline.{Pipeline}
-use Rattle.ci_machine.specs.declared.records.Job.{Job}
-use Rattle.ci_machine.specs.declared.records.JobOptions.{JobOptions}
-use Rattle.ci_machine.specs.declared.records.BoardRow.{BoardRow}
-use Rattle.ci_machine.specs.declared.request.NewRunner.{NewRunner}
-use Rattle.ci_machine.specs.declared.request.Report.TheVariants as report
-use Rattle.ci_machine.specs.declared.reply.HttpStatus.{HttpStatus}
-use Rattle.ci_machine.specs.State.{State, first_numbers}
-use Rattle.ci_machine_steps.specs.Plans.{Plan}
-use Rattle.ci_machine.specs.Options.{plain_options}
-use Rattle.ci_machine_steps.specs.Runners.{pause_runner}
-use Rattle.ci_machine_steps.specs.Step.{runner_at}
+use Rattle.ci_machine_steps.specs.Prelude.{Status, no_row, Runner, Pipeline, Job, JobOptions, BoardRow, NewRunner, Report, HttpStatus, State, first_numbers, Plan, plain_options}
+use Rattle.ci_machine_steps.specs.Prelude.{pause_runner, runner_at}
 use Rattle.ci_machine_laws.specs.Examples.{job, leased, after, asked, said, new_runner}
 use Rattle.ci_machine_laws.specs.ActExamples.{its_pipeline}
 
@@ -64,11 +50,11 @@ of_a_minute = record leased { jobs = (record job { options = record (plain_optio
 -- its runner is heard of at these moments
 abbrev pub heard_at : List ℕ → State → State
 heard_at [] s = s
-heard_at (now ∷ later) s = heard_at later (after (said s [] report.Running now) s)
+heard_at (now ∷ later) s = heard_at later (after (said s [] Report.Running now) s)
 
 abbrev pub replies_at : List ℕ → State → List HttpStatus
 replies_at [] s = []
-replies_at (now ∷ later) s = (said s [] report.Running now).0.status ∷ replies_at later (after (said s [] report.Running now) s)
+replies_at (now ∷ later) s = (said s [] Report.Running now).0.status ∷ replies_at later (after (said s [] Report.Running now) s)
 
 abbrev pub moments : List ℕ
 moments = 1010 ∷ 1020 ∷ 1030 ∷ 1040 ∷ 1050 ∷ 1005 ∷ []
@@ -100,4 +86,4 @@ after_asking s board = after (asked s board (codes "r")) s
 
 -- the first job is granted
 abbrev pub shipping : Bool → List ℕ → State
-shipping interruptible git_ref = after_asking (ships interruptible git_ref) (both status.Pending status.Pending)
+shipping interruptible git_ref = after_asking (ships interruptible git_ref) (both Status.Pending Status.Pending)

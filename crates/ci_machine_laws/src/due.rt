@@ -1,12 +1,7 @@
 //! What is due at a moment ends, by so many sweeps.
 
 ghost use Rattle.std.specs.Prelude.{List, [], ◌∷◌, ◌++◌, length, ℕ, ◌≡◌, ◌≤◌, All};
-ghost use Rattle.ci_machine.specs.Statuses.{AreBoard};
-ghost use Rattle.ci_machine.specs.declared.request.Seed.{Seed};
-ghost use Rattle.ci_machine.specs.State.{State};
-ghost use Rattle.ci_machine_steps.specs.History.{IsReached};
-ghost use Rattle.ci_machine_steps.specs.Laws.{NoneIsDue, NoneIsRedundant};
-ghost use Rattle.ci_machine_steps.specs.OneBoard.{HasOneBoard};
+ghost use Rattle.ci_machine_steps.specs.Prelude.{AreBoard, Seed, State, IsReached, NoneIsDue, NoneIsRedundant, HasOneBoard};
 ghost use Rattle.ci_machine_laws.specs.Sweeping.{Sweeps, unended, EndsBy};
 ghost use Rattle.ci_machine_laws.specs.Examples.{swept};
 ghost use Rattle.ci_machine_laws.specs.SweepExamples.{overtaken, third_waits, swept_once, swept_twice};

@@ -1,18 +1,7 @@
 //! A runner that asks for a job, and is told that there is none.
 
 ghost use Rattle.std.specs.Prelude.{List, [], ◌∷◌, ℕ, ◌≡◌, codes, true, false, Some};
-ghost use Rattle.ci_machine.specs.declared.records.BoardRow.{BoardRow};
-ghost use Rattle.ci_machine.specs.declared.records.Job.{Job};
-ghost use Rattle.ci_machine.specs.declared.records.Runner.{Runner};
-ghost use Rattle.ci_machine.specs.declared.request.Event.{Event};
-ghost use Rattle.ci_machine.specs.declared.request.Seed.{Seed};
-ghost use Rattle.ci_machine.specs.declared.reply.Answer.{Answer};
-ghost use Rattle.ci_machine.specs.declared.reply.Reply.{Reply};
-ghost use Rattle.ci_machine.specs.State.{State};
-ghost use Rattle.ci_machine.specs.Statuses.{AreBoard};
-ghost use Rattle.ci_machine_steps.specs.Step.{Step};
-ghost use Rattle.ci_machine_steps.specs.History.{IsReached};
-ghost use Rattle.ci_machine_steps.specs.Laws.{IsLeastEligible};
+ghost use Rattle.ci_machine_steps.specs.Prelude.{BoardRow, Job, Runner, Event, Seed, Answer, Reply, State, AreBoard, Step, IsReached, IsLeastEligible};
 ghost use Rattle.ci_machine_laws.specs.NoJob.{IsNotFor, HasNoJob};
 ghost use Rattle.ci_machine_laws.specs.Examples.{rows};
 ghost use Rattle.ci_machine_laws.specs.WaitingExamples.{some_runner, tagged, waits, tagged_job, ship};

@@ -1,36 +1,13 @@
 //! What holds of every step and of each reached state, and worked examples.
 
 ghost use Rattle.std.specs.Prelude.{List, [], ◌∷◌, ℕ, ◌≡◌, map, codes, replicate, All, Contains, true, false, Some, None, Ok, Err};
-ghost use Rattle.ci_machine.specs.declared.records.Pipeline.{Pipeline};
-ghost use Rattle.ci_machine.specs.declared.records.Job.{Job};
-ghost use Rattle.ci_machine.specs.declared.records.Attempt.{Attempt};
-ghost use Rattle.ci_machine.specs.declared.records.BoardRow.{BoardRow};
-ghost use Rattle.ci_machine.specs.declared.request.Event.{Event};
-ghost use Rattle.ci_machine.specs.declared.request.Seed.{Seed};
-ghost use Rattle.ci_machine.specs.declared.request.TracePart.{TracePart};
-ghost use Rattle.ci_machine.specs.declared.request.NewMode.{NewMode};
-ghost use Rattle.ci_machine.specs.declared.reply.Reply.{Reply};
-ghost use Rattle.ci_machine.specs.declared.reply.Answer.{Answer};
-ghost use Rattle.ci_machine.specs.State.{State, applied};
-ghost use Rattle.ci_machine.specs.Statuses.{jobs_of, attempts_of, AreBoard};
-ghost use Rattle.ci_machine_steps.specs.Plans.{Plan, refused, faulted};
-ghost use Rattle.ci_machine_steps.specs.Projects.{add_project, made_project};
-ghost use Rattle.ci_machine_steps.specs.Runners.{add_runner, made_runner};
-ghost use Rattle.ci_values.specs.Layers.{Variables};
-ghost use Rattle.ci_machine_steps.specs.Variables.{set_variable, delete_variable};
-ghost use Rattle.ci_machine_steps.specs.Modes.{mode_told, set_mode};
-ghost use Rattle.ci_machine.specs.Reply.{plain, refusal};
-ghost use Rattle.ci_machine_steps.specs.Pipelines.{lacks_numbers, may_create};
-ghost use Rattle.ci_machine_steps.specs.Grants.{nothing_to_run};
-ghost use Rattle.ci_machine_steps.specs.Reports.{told, unleased};
-ghost use Rattle.ci_machine_steps.specs.Traces.{accepted_to, not_accepted};
-ghost use Rattle.ci_values.specs.Names.{is_name};
-ghost use Rattle.ci_machine_steps.specs.Step.{Does, Step};
-ghost use Rattle.ci_machine.specs.Reply.{Stepped, outcome_of, detail_text};
-ghost use Rattle.ci_machine_steps.specs.Laws.{IsRefusal, Laws};
-ghost use Rattle.ci_machine_steps.specs.History.{Past, Leads, IsReached};
-ghost use Rattle.ci_machine_steps.specs.Sound.{IsSound};
-ghost use Rattle.ci_machine_steps.specs.OneBoard.{HasNoCircle, HasOneBoard, WasPending};
+ghost use Rattle.ci_machine_steps.specs.Prelude.{Pipeline, Job, Attempt, BoardRow, Event, Seed, TracePart, NewMode, Reply, Answer, State, applied, jobs_of, attempts_of, AreBoard};
+ghost use Rattle.ci_machine_steps.specs.Prelude.{Plan, refused, faulted, add_project, made_project, add_runner, made_runner, Variables, set_variable, delete_variable, mode_told};
+ghost use Rattle.ci_machine_steps.specs.Prelude.{set_mode, plain, refusal, lacks_numbers, may_create, nothing_to_run, unleased, accepted_to, not_accepted, is_name, Does, Step};
+ghost use Rattle.ci_machine_steps.specs.Prelude.{Stepped, outcome_of, detail_text, IsRefusal, Laws, Past, Leads, IsReached, IsSound, HasNoCircle, HasOneBoard, WasPending, holders};
+ghost use Rattle.ci_machine_steps.specs.Prelude.{prunable_in, pruned_reply, nothing_to_prune, without_pipeline, project_at, trace_of, leases, renewed, is_over, deadline, accepted};
+ghost use Rattle.ci_machine_steps.specs.Prelude.{size_after, finished, cause_of};
+ghost use Rattle.ci_machine_steps.specs.Reports.{told};
 ghost use Rattle.ci_machine_laws.specs.Examples.{reply_text, project_added, with_project, new_runner, runner_added, pipeline, made, given, pipeline_made, granted, with_pipeline, with_attempt, token, two_rows, rows, asked, project_of, pair, with_variables, set_to, stage_by, new_variable, old_variable, hundred, put_variable, seed, attempt, lease, leased, after, sent, said, swept, query, job_shown, trace_shown, hello, hello_world};
 ghost use Rattle.ci_machine_laws.specs.ActExamples.{pipeline_query, board_from, pipeline_after, four, four_board, all_cancelled, cancelled_rows, cancel_marks, run_cancelled, run_cancelled_rows, five, five_board, first_retried, retried_rows, two, two_board, hand_played, played_rows, succeeded, succeeded_board, hand_retried};
 ghost use Rattle.ci_machine_laws.specs.WaitingExamples.{some_runner, tagged, waits, pause, both, answer_of, with_tags, for_project, of_a_minute, heard_at, replies_at, moments, ships, shipping, after_asking};
@@ -40,10 +17,6 @@ ghost use Rattle.ci_machine_laws.specs.PruneExamples.{second_day, both_done, bot
 ghost use Rattle.ci_machine_laws.specs.Pieces.{GoesBehind};
 ghost use Rattle.ci_machine_laws.specs.Unchanged.{LeadsOrStays, AreSome};
 ghost use Rattle.ci_machine_laws.specs.Modes.{SetsMode};
-ghost use Rattle.ci_machine.specs.Holders.{holders};
-ghost use Rattle.ci_machine_steps.specs.Prunes.{prunable_in, pruned_reply, nothing_to_prune, without_pipeline};
-ghost use Rattle.ci_machine_steps.specs.Step.{project_at, trace_of, leases};
-ghost use Rattle.ci_machine.specs.Leases.{renewed, is_over, deadline, accepted, size_after, finished, cause_of};
 
 use ci_board::facts::Status;
 use ci_board::laws::one_assignment;

@@ -1,16 +1,7 @@
 //! What an event leads to from a state is fixed.
 
 ghost use Rattle.std.specs.Prelude.{ℕ, ◌≡◌, codes, Some, None};
-ghost use Rattle.ci_machine.specs.declared.request.Event.{Event};
-ghost use Rattle.ci_machine.specs.declared.request.Seed.{Seed};
-ghost use Rattle.ci_machine.specs.declared.request.JobQuery.{JobQuery};
-ghost use Rattle.ci_machine.specs.declared.request.PipelineQuery.{PipelineQuery};
-ghost use Rattle.ci_machine.specs.declared.request.NewPipeline.{NewPipeline};
-ghost use Rattle.ci_machine.specs.declared.reply.Answer.{Answer};
-ghost use Rattle.ci_machine.specs.declared.reply.Reply.{Reply};
-ghost use Rattle.ci_machine.specs.State.{State};
-ghost use Rattle.ci_machine_steps.specs.Step.{Step};
-ghost use Rattle.ci_machine_steps.specs.History.{IsReached};
+ghost use Rattle.ci_machine_steps.specs.Prelude.{Event, Seed, JobQuery, PipelineQuery, NewPipeline, Answer, Reply, State, Step, IsReached};
 ghost use Rattle.ci_machine_laws.specs.ShownAgain.{ActsOnJob, asks_for};
 ghost use Rattle.ci_machine_laws.specs.OneOutcome.{text_read, OneOutcome};
 ghost use Rattle.ci_machine_laws.specs.Examples.{with_file, new_file, by_token};

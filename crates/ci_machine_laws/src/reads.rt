@@ -1,17 +1,7 @@
 //! What is read of a project, and of what it has.
 
 ghost use Rattle.std.specs.Prelude.{List, [], ◌∷◌, ℕ, ◌≡◌, codes, None};
-ghost use Rattle.ci_machine.specs.declared.records.BoardRow.{BoardRow};
-ghost use Rattle.ci_machine.specs.declared.request.Event.{Event};
-ghost use Rattle.ci_machine.specs.declared.request.ReadQuery.{ReadQuery};
-ghost use Rattle.ci_machine.specs.declared.request.Seed.{Seed};
-ghost use Rattle.ci_machine.specs.declared.reply.Answer.{Answer};
-ghost use Rattle.ci_machine.specs.declared.reply.Reply.{Reply};
-ghost use Rattle.ci_machine.specs.State.{State};
-ghost use Rattle.ci_machine.specs.Statuses.{AreBoard};
-ghost use Rattle.ci_machine_steps.specs.Plans.{refused};
-ghost use Rattle.ci_machine_steps.specs.Step.{Does, Step};
-ghost use Rattle.ci_machine_steps.specs.History.{IsReached};
+ghost use Rattle.ci_machine_steps.specs.Prelude.{BoardRow, Event, ReadQuery, Seed, Answer, Reply, State, AreBoard, refused, Does, Step, IsReached};
 ghost use Rattle.ci_machine_laws.specs.Reads.{TellsNewest, TellsGroups};
 ghost use Rattle.ci_machine_laws.specs.Examples.{reply_text};
 ghost use Rattle.ci_machine_laws.specs.ReadExamples.{two_projects, two_projects_board, read_query, read_by, read_first, numbers_listed, down_from};

@@ -1,12 +1,7 @@
 //! What a runner sends again, as it does where a reply was lost.
 
 ghost use Rattle.std.specs.Prelude.{List, ℕ, ◌≡◌, true};
-ghost use Rattle.ci_machine.specs.declared.request.Event.{Event};
-ghost use Rattle.ci_machine.specs.declared.request.Seed.{Seed};
-ghost use Rattle.ci_machine.specs.declared.reply.Answer.{Answer};
-ghost use Rattle.ci_machine.specs.State.{State};
-ghost use Rattle.ci_machine_steps.specs.Step.{Step};
-ghost use Rattle.ci_machine_steps.specs.History.{Past, Leads, IsReached};
+ghost use Rattle.ci_machine_steps.specs.Prelude.{Event, Seed, Answer, State, Step, Past, Leads, IsReached};
 ghost use Rattle.ci_machine_laws.specs.Repeats.{is_of_runner, RepeatsChangeNothing};
 
 /// In each history, what a runner sent again changed nothing. What it sent twice at one moment, where nothing changed between, left the

@@ -1,45 +1,20 @@
 -- What is answered where a pipeline is to be made of a text fits it.
-use Rattle.std.specs.Prelude.{◌≡◌, ◌⊎◌, ℕ, ◌+◌, ◌-◌, ◌≤◌, Bool, true, false, ◌||◌, nat_lt, nat_le, List, [], length, map, sum_by, Option, Some, None, Result, Ok, Err, IfOk, IfSome}
-use Rattle.std.specs.Ordering.{nat_cmp}
+use Rattle.std.proofs.Common.{◌≡◌, ◌⊎◌, ℕ, ◌+◌, ◌-◌, ◌≤◌, Bool, true, false, ◌||◌, nat_lt, nat_le, List, [], length, map, sum_by, Option, Some, None, Result, Ok, Err, IfOk, IfSome}
+use Rattle.std.proofs.Common.{nat_cmp, inl, inr, refl, sym, ap, subst, ◌∙◌, arith}
 use Rattle.std.specs.List.Sorted.{IsStrictlySortedBy}
-use Rattle.std.proofs.Common.{inl, inr, refl, sym, ap, subst, ◌∙◌, arith}
 use Rattle.std.proofs.lemmas.Bool.{ltb-false, false≢true}
-use Rattle.ci_values.specs.declared.limits.TheConstants.{MAX_NUMBER}
-use Rattle.ci_yaml_lines.specs.Tree.{Value}
-use Rattle.ci_yaml.specs.Document.{HasTree}
-use Rattle.ci_yaml.specs.Stops.{RefusedBy}
+use Rattle.ci_machine_steps.specs.Prelude.{MAX_NUMBER, Job, Variable, NewPipeline, State, M15, Detail, Plan, refused, faulted, line_fault, keyword_fault, IsRead, configures}
+use Rattle.ci_machine_steps.specs.Prelude.{misconfigures, lacks_tree, IsLaidOut, misread, unplanned, new_jobs, lacks_numbers, given_by, ShowsCreated, MakesUnless, Creates}
+use Rattle.ci_config.specs.Prelude.{Value}
+use Rattle.ci_yaml.specs.Prelude.{HasTree, RefusedBy}
 use Rattle.ci_yaml.specs.declared.fault.YamlFault.{YamlFault}
-use Rattle.ci_yaml.specs.declared.fault.YamlFault.TheVariants as yaml
-use Rattle.ci_config.specs.Config.{Config}
-use Rattle.ci_config.specs.Expressions.{Patterns}
-use Rattle.ci_config.specs.Fault.{K13}
-use Rattle.ci_config.specs.Laws.{ConfigLacksPatterns}
-use Rattle.ci_config.specs.Meaning.{meaning, Means}
-use Rattle.ci_config.specs.View.{config_view}
-use Rattle.ci_expr.specs.Answered.{RefusesLooks}
-use Rattle.ci_expr.specs.Built.{Look, look_cost}
-use Rattle.ci_expr.specs.declared.fault.ExprCode.TheVariants.{X8}
-use Rattle.ci_expr.specs.declared.fault.ExprFault.{ExprFault}
-use Rattle.ci_expr.specs.declared.fault.ExprFault.TheVariants as looks
+use Rattle.ci_graph_layout.specs.Prelude.{Config, Patterns, K13, ConfigLacksPatterns, meaning, Means, config_view, RefusesLooks, Look, look_cost, X8, ExprFault, code_view}
+use Rattle.ci_graph_layout.specs.Prelude.{ConfigFault, unmade}
 use Rattle.ci_graph_layout.specs.declared.limits.TheConstants.{MAX_SEARCH_COST}
 use Rattle.ci_config.specs.FaultView as keywords
-use Rattle.ci_config.specs.FaultView.{code_view}
-use Rattle.ci_config.specs.declared.fault.ConfigFault.{ConfigFault}
-use Rattle.ci_config.specs.declared.fault.ConfigFault.TheVariants as config
 use Rattle.ci_graph_layout.specs.Plans.{Gives}
-use Rattle.ci_graph_layout.specs.Unmade.{unmade}
 use Rattle.ci_graph_layout.specs.declared.fault.PlanFault.{PlanFault}
-use Rattle.ci_graph_layout.specs.declared.fault.PlanFault.TheVariants as plan
-use Rattle.ci_machine.specs.declared.records.Job.{Job}
-use Rattle.ci_machine.specs.declared.records.Variable.{Variable}
-use Rattle.ci_machine.specs.declared.request.NewPipeline.{NewPipeline}
-use Rattle.ci_machine.specs.State.{State}
-use Rattle.ci_machine.specs.declared.reply.Code.TheVariants.{M15}
-use Rattle.ci_machine.specs.declared.reply.Detail.{Detail}
-use Rattle.ci_machine_steps.specs.Plans.{Plan, refused, faulted}
-use Rattle.ci_machine_steps.specs.Files.{line_fault, keyword_fault, IsRead, configures, misconfigures, lacks_tree}
 use Rattle.ci_machine_steps.specs.Pipelines as pipelines
-use Rattle.ci_machine_steps.specs.Pipelines.{IsLaidOut, misread, unplanned, new_jobs, lacks_numbers, given_by, ShowsCreated, MakesUnless, Creates}
 use Rattle.ci_machine_steps.proofs.Created.{new_rise, new_length}
 use Rattle.ci_machine_steps.proofs.Sound.{ascend_from_rising}
 use Rattle.ci_machine_pipelines.specs.declared.creation.Creation.{Creation}
@@ -52,14 +27,14 @@ use Rattle.ci_machine_pipelines.specs.Creations.{Origin, origin, creation_view, 
 
 -- of the lines
 pub lacks : (text : List ℕ) (o : Origin) (fault : YamlFault) (f : FileFault) → f ≡ yaml_fault fault → RefusedBy text fault → LaysOut text o (Err f)
-lacks text o yaml.Memory f is by = subst (λ (g : FileFault). LaysOut text o (Err g)) (sym is) tt
-lacks text o (yaml.Fault code line) f is by = subst (λ (g : FileFault). LaysOut text o (Err g)) (sym is) (misread (line_fault code line) (lacks_tree line code by))
+lacks text o YamlFault.Memory f is by = subst (λ (g : FileFault). LaysOut text o (Err g)) (sym is) tt
+lacks text o (YamlFault.Fault code line) f is by = subst (λ (g : FileFault). LaysOut text o (Err g)) (sym is) (misread (line_fault code line) (lacks_tree line code by))
 
 -- of the keywords
 pub misconfigured : (text : List ℕ) (o : Origin) (tree : Value) (fault : ConfigFault) (f : FileFault) → HasTree text tree → ((builds : Patterns) × keywords.Gives config_view (Err fault) (meaning builds tree)) → Shows f fault → LaysOut text o (Err f)
 misconfigured text o tree fault Memory has answer shows = tt
-misconfigured text o tree config.Memory (Fault detail) has answer shows = absurd shows
-misconfigured text o tree (config.Fault code) (Fault detail) has answer shows =
+misconfigured text o tree ConfigFault.Memory (Fault detail) has answer shows = absurd shows
+misconfigured text o tree (ConfigFault.Fault code) (Fault detail) has answer shows =
     subst (λ (d : Detail). IsLaidOut text o.given (Err d)) (sym shows) (misread (keyword_fault (code_view code)) (misconfigures tree (code_view code) has answer))
 
 -- where there is a pattern, X8 may be answered
@@ -75,7 +50,7 @@ pub not_built : (text : List ℕ) (o : Origin) (c : Config) → IsRead text (Ok 
 not_built text o c (configures tree k has answer) refuse some = misread (keyword_fault (K13 X8)) (misconfigures tree (K13 X8) has (refused-by tree c (refuse tree c answer) some))
 
 -- of rules that cost too much to decide
-pub unaffordable : (text : List ℕ) (o : Origin) (c : Config) (looks : List Look) (f : FileFault) → f ≡ plan_fault plan.Pattern → IsRead text (Ok c) → MayRefuse
+pub unaffordable : (text : List ℕ) (o : Origin) (c : Config) (looks : List Look) (f : FileFault) → f ≡ plan_fault PlanFault.Pattern → IsRead text (Ok c) → MayRefuse
     → (ConfigLacksPatterns c → looks ≡ []) → nat_le (sum_by look_cost looks) MAX_SEARCH_COST ≡ false → LaysOut text o (Err f)
 unaffordable text o c looks f is read refuse none over =
     subst (λ (g : FileFault). LaysOut text o (Err g)) (sym is) (not_built text o c read refuse (λ h.
@@ -85,15 +60,15 @@ unaffordable text o c looks f is read refuse none over =
 -- of looks that aren't made
 pub not_looked_for : (text : List ℕ) (o : Origin) (c : Config) (e : ExprFault) (looks : List Look) (f : FileFault) → f ≡ plan_fault (unmade e) → IsRead text (Ok c) → MayRefuse
     → (ConfigLacksPatterns c → looks ≡ []) → RefusesLooks e looks → LaysOut text o (Err f)
-not_looked_for text o c looks.Memory ls f is read refuse none by = subst (λ (g : FileFault). LaysOut text o (Err g)) (sym is) tt
-not_looked_for text o c (looks.Fault x) ls f is read refuse none by =
+not_looked_for text o c ExprFault.Memory ls f is read refuse none by = subst (λ (g : FileFault). LaysOut text o (Err g)) (sym is) tt
+not_looked_for text o c (ExprFault.Fault x) ls f is read refuse none by =
     subst (λ (g : FileFault). LaysOut text o (Err g)) (sym is) (not_built text o c read refuse (λ h. by.1 (none h)))
 
 -- of the graph
 pub not_planned : (text : List ℕ) (o : Origin) (c : Config) (fault : PlanFault) (f : FileFault) → f ≡ plan_fault fault → IsRead text (Ok c) → MayRefuse → Gives o.given c (Err fault) → LaysOut text o (Err f)
-not_planned text o c plan.Pattern f is read refuse gives = subst (λ (g : FileFault). LaysOut text o (Err g)) (sym is) (not_built text o c read refuse gives)
-not_planned text o c plan.Memory f is read refuse gives = subst (λ (g : FileFault). LaysOut text o (Err g)) (sym is) tt
-not_planned text o c (plan.Fault code) f is read refuse gives = subst (λ (g : FileFault). LaysOut text o (Err g)) (sym is) (unplanned c code read gives)
+not_planned text o c PlanFault.Pattern f is read refuse gives = subst (λ (g : FileFault). LaysOut text o (Err g)) (sym is) (not_built text o c read refuse gives)
+not_planned text o c PlanFault.Memory f is read refuse gives = subst (λ (g : FileFault). LaysOut text o (Err g)) (sym is) tt
+not_planned text o c (PlanFault.Fault code) f is read refuse gives = subst (λ (g : FileFault). LaysOut text o (Err g)) (sym is) (unplanned c code read gives)
 
 -- ---- numbers
 

@@ -1,17 +1,10 @@
 -- What is answered of a text fits it.
 use Rattle.std.proofs.Common.{◌≡◌, ℕ, List, Result, Ok, Err, sym, subst}
-use Rattle.ci_yaml_lines.specs.Tree.{Value}
-use Rattle.ci_yaml.specs.Document.{HasTree}
-use Rattle.ci_yaml.specs.Stops.{RefusedBy}
+use Rattle.ci_config.specs.Prelude.{Value, Gives}
+use Rattle.ci_yaml.specs.Prelude.{HasTree, RefusedBy}
 use Rattle.ci_yaml.specs.declared.fault.YamlFault.{YamlFault}
-use Rattle.ci_yaml.specs.declared.fault.YamlFault.TheVariants as yaml
-use Rattle.ci_config.specs.Expressions.{Patterns}
-use Rattle.ci_config.specs.FaultView.{code_view, Gives}
-use Rattle.ci_config.specs.Meaning.{meaning}
-use Rattle.ci_config.specs.View.{config_view}
-use Rattle.ci_config.specs.declared.fault.ConfigFault.{ConfigFault}
-use Rattle.ci_config.specs.declared.fault.ConfigFault.TheVariants as config
-use Rattle.ci_machine_steps.specs.Files.{IsRead, configures, misconfigures, lacks_tree}
+use Rattle.ci_graph_layout.specs.Prelude.{Patterns, code_view, meaning, config_view, ConfigFault}
+use Rattle.ci_machine_steps.specs.Prelude.{IsRead, configures, misconfigures, lacks_tree}
 use Rattle.ci_machine_pipelines.specs.declared.files.FileFault.{FileFault}
 use Rattle.ci_machine_pipelines.specs.declared.files.FileFault.TheVariants.{Memory, Fault}
 use Rattle.ci_machine_pipelines.specs.Readings.{yaml_fault, Shows, Counts, CountsTree}
@@ -22,10 +15,10 @@ of_tree text tree (Err Memory) has c = tt
 of_tree text tree (Err (Fault detail)) has c = subst (λ d. IsRead text (Err d)) (sym c.2) (misconfigures tree c.0 has c.1)
 
 pub of_fault : (text : List ℕ) (fault : YamlFault) (f : FileFault) → f ≡ yaml_fault fault → RefusedBy text fault → Counts text (Err f)
-of_fault text yaml.Memory f is by = subst (λ g. Counts text (Err g)) (sym is) tt
-of_fault text (yaml.Fault code line) f is by = subst (λ g. Counts text (Err g)) (sym is) (lacks_tree line code by)
+of_fault text YamlFault.Memory f is by = subst (λ g. Counts text (Err g)) (sym is) tt
+of_fault text (YamlFault.Fault code line) f is by = subst (λ g. Counts text (Err g)) (sym is) (lacks_tree line code by)
 
 pub of_keywords : (tree : Value) (fault : ConfigFault) (f : FileFault) → ((builds : Patterns) × Gives config_view (Err fault) (meaning builds tree)) → Shows f fault → CountsTree tree (Err f)
 of_keywords tree fault Memory answer shows = tt
-of_keywords tree config.Memory (Fault detail) answer shows = absurd shows
-of_keywords tree (config.Fault code) (Fault detail) answer shows = (code_view code, answer, shows)
+of_keywords tree ConfigFault.Memory (Fault detail) answer shows = absurd shows
+of_keywords tree (ConfigFault.Fault code) (Fault detail) answer shows = (code_view code, answer, shows)

@@ -1,27 +1,14 @@
 -- What is answered where a pipeline is to be made of a text: its records.
 use Rattle.std.specs.Prelude.{◌≡◌, ⊤, ℕ, Bool, true, false, List, length, replicate, Option, Some, None, Result, Ok, Err}
 use Rattle.serde_json.specs.Written.{compact_text}
-use Rattle.ci_board.specs.declared.facts.Row.{Row}
-use Rattle.ci_board.specs.Rows.{no_facts}
-use Rattle.ci_values.specs.Layers.{layer_view}
-use Rattle.ci_expr.specs.declared.fault.ExprCode.TheVariants.{X8}
-use Rattle.ci_config.specs.Fault.{K13}
+use Rattle.ci_machine_steps.specs.Prelude.{Row, no_facts, layer_view, Claim, Need, Variable, NewPipeline, pipeline_data, keyword_fault, Layout, IsLaidOut, graph_fault}
+use Rattle.ci_machine_steps.specs.Prelude.{lacks_numbers}
+use Rattle.ci_graph_layout.specs.Prelude.{X8, K13, config_view, plan_view, given_view}
 use Rattle.ci_config.specs.declared.file.Config.{Config}
-use Rattle.ci_config.specs.View.{config_view}
 use Rattle.ci_graph_layout.specs.Inclusion as inclusion
-use Rattle.ci_graph_layout.specs.Plans.{plan_view}
-use Rattle.ci_graph_layout.specs.View.{given_view}
 use Rattle.ci_graph_layout.specs.declared.planning.PipelinePlan.{PipelinePlan}
 use Rattle.ci_graph_layout.specs.declared.fault.PlanFault.{PlanFault}
-use Rattle.ci_graph_layout.specs.declared.fault.PlanFault.TheVariants as plan
-use Rattle.ci_machine.specs.declared.records.Claim.{Claim}
-use Rattle.ci_machine.specs.declared.records.Need.{Need}
-use Rattle.ci_machine.specs.declared.records.Variable.{Variable}
-use Rattle.ci_machine.specs.declared.request.NewPipeline.{NewPipeline}
-use Rattle.ci_machine.specs.Bodies.{pipeline_data}
-use Rattle.ci_machine_steps.specs.Files.{keyword_fault}
 use Rattle.ci_machine_steps.specs.Pipelines as pipelines
-use Rattle.ci_machine_steps.specs.Pipelines.{Layout, IsLaidOut, graph_fault, lacks_numbers}
 use Rattle.ci_machine_pipelines.specs.declared.creation.Creation.{Creation}
 use Rattle.ci_machine_pipelines.specs.declared.files.FileFault.{FileFault}
 use Rattle.ci_machine_pipelines.specs.declared.files.FileFault.TheVariants.{Memory, Fault}
@@ -63,9 +50,9 @@ origin id first_job asked vs moment = record { id = id; first_job = first_job; a
 -- ---- what is answered
 
 abbrev pub plan_fault : PlanFault → FileFault
-plan_fault plan.Memory = Memory
-plan_fault (plan.Fault code) = Fault (graph_fault code)
-plan_fault plan.Pattern = Fault (keyword_fault (K13 X8))
+plan_fault PlanFault.Memory = Memory
+plan_fault (PlanFault.Fault code) = Fault (graph_fault code)
+plan_fault PlanFault.Pattern = Fault (keyword_fault (K13 X8))
 
 -- the body that shows the pipeline, of whose jobs none was tried, with these rows, where these are the resource groups for which they must wait
 abbrev pub created_text : Creation → List Claim → List Row → List ℕ

@@ -1,14 +1,9 @@
 //! The records of a new pipeline, and the plan that makes it.
 
 ghost use Rattle.std.specs.Prelude.{◌≡◌, ◌+◌, ◌≤◌, ◌++◌, [], IfOk, OnOk, length, map, option_map, replicate};
-ghost use Rattle.ci_values.specs.Layers.{text_view};
-ghost use Rattle.ci_values.specs.Table.{words_view};
-ghost use Rattle.ci_board.specs.Rows.{no_facts};
-ghost use Rattle.ci_graph.specs.Pairs.{AreWithin};
-ghost use Rattle.ci_graph_layout.specs.Plans.{plan_view};
-ghost use Rattle.ci_graph_layout.specs.View.{given_view, included_view};
-ghost use Rattle.ci_machine.specs.Bodies.{status_of_jobs};
-ghost use Rattle.ci_machine.specs.State.{put, need_cmp};
+ghost use Rattle.ci_machine_steps.specs.Prelude.{text_view, words_view, no_facts, status_of_jobs, put, need_cmp};
+ghost use Rattle.ci_machine.specs.Prelude.{AreWithin};
+ghost use Rattle.ci_graph_layout.specs.Prelude.{plan_view, given_view, included_view};
 ghost use Rattle.ci_machine_steps.specs.Pipelines as pipelines;
 ghost use Rattle.ci_machine.specs.declared.change.RowChange.TheVariants as change;
 ghost use Rattle.ci_machine.specs.declared.change.Record.TheVariants as row;

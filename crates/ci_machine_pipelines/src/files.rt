@@ -1,9 +1,8 @@
 //! A project's file is to be a text; and faults of files, as replies name them.
 
 ghost use Rattle.std.specs.Prelude.{◌≡◌, IfOk, Ok, length};
-ghost use Rattle.ci_yaml_lines.specs.TreeView.{value_view};
-ghost use Rattle.ci_config.specs.Config.{Config};
-ghost use Rattle.ci_config.specs.FaultView.{code_view};
+ghost use Rattle.ci_config.specs.Prelude.{value_view};
+ghost use Rattle.ci_graph_layout.specs.Prelude.{Config, code_view};
 ghost use Rattle.ci_machine_steps.specs.Files as files;
 ghost use Rattle.ci_machine_pipelines.specs.Readings.{yaml_fault, Shows, Counts, CountsTree};
 

@@ -1,13 +1,7 @@
 //! Laws of what is answered. These functions do nothing: what they ensure is what the checker proves.
 
 ghost use Rattle.std.specs.Prelude.{◌≡◌, ℕ, List, Some, None, Ok, Err};
-ghost use Rattle.ci_machine.specs.State.{State};
-ghost use Rattle.ci_machine.specs.declared.records.Variable.{Variable};
-ghost use Rattle.ci_machine.specs.declared.request.NewPipeline.{NewPipeline};
-ghost use Rattle.ci_machine.specs.declared.reply.Code.TheVariants.{M15};
-ghost use Rattle.ci_machine.specs.declared.reply.Detail.{Detail};
-ghost use Rattle.ci_machine_steps.specs.Plans.{Plan, refused, faulted};
-ghost use Rattle.ci_machine_steps.specs.Pipelines.{given_by, ShowsCreated, Creates};
+ghost use Rattle.ci_machine_steps.specs.Prelude.{State, Variable, NewPipeline, M15, Detail, Plan, refused, faulted, given_by, ShowsCreated, Creates};
 ghost use Rattle.ci_machine_pipelines.specs.declared.creation.Creation.{Creation};
 ghost use Rattle.ci_machine_pipelines.specs.declared.files.FileFault.TheVariants.{Fault};
 ghost use Rattle.ci_machine_pipelines.specs.Creations.{origin, LaysOut, creation_view};

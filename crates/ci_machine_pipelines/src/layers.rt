@@ -2,12 +2,9 @@
 
 ghost use Rattle.std.specs.Prelude.{◌≡◌, ◌+◌, ◌≤◌, ◌++◌, IfOk, OnOk, map, length};
 ghost use Rattle.std.specs.Fmt.{decimal};
-ghost use Rattle.ci_values.specs.Layers.{layer_view};
-ghost use Rattle.ci_config.specs.View.{config_view};
-ghost use Rattle.ci_graph_layout.specs.View.{given_view, included_view};
-ghost use Rattle.ci_machine.specs.State.{put};
+ghost use Rattle.ci_machine_steps.specs.Prelude.{layer_view, put, ref_name, predefined, name_cmp, merged};
+ghost use Rattle.ci_graph_layout.specs.Prelude.{config_view, given_view, included_view};
 ghost use Rattle.ci_machine_steps.specs.Pipelines as pipelines;
-ghost use Rattle.ci_machine_steps.specs.Pipelines.{ref_name, predefined, name_cmp, merged};
 ghost use Rattle.ci_machine_pipelines.specs.Creations.{brought_view};
 
 use ci_config::Config;

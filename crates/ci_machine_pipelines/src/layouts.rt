@@ -4,17 +4,12 @@ ghost use Rattle.std.specs.Prelude.{◌≡◌, ◌+◌, ◌≤◌, ℕ, List, Ok
 ghost use Rattle.std.specs.Fmt.{decimal};
 ghost use Rattle.std.specs.Ordering.{nat_cmp};
 ghost use Rattle.std.specs.List.Sorted.{IsStrictlySortedBy};
-ghost use Rattle.ci_yaml_lines.specs.TreeView.{value_view};
-ghost use Rattle.ci_yaml.specs.Document.{HasTree};
-ghost use Rattle.ci_config.specs.View.{config_view};
-ghost use Rattle.ci_graph.specs.Pairs.{AreWithin};
-ghost use Rattle.ci_expr.specs.Answered.{AreAnswered};
-ghost use Rattle.ci_graph_layout.specs.Plans.{plan_view};
-ghost use Rattle.ci_graph_layout.specs.Searches.{all_looks};
-ghost use Rattle.ci_graph_layout.specs.View.{given_view};
-ghost use Rattle.ci_machine_steps.specs.Files.{IsRead};
+ghost use Rattle.ci_config.specs.Prelude.{value_view};
+ghost use Rattle.ci_yaml.specs.Prelude.{HasTree};
+ghost use Rattle.ci_graph_layout.specs.Prelude.{config_view, AreAnswered, plan_view, all_looks, given_view};
+ghost use Rattle.ci_machine.specs.Prelude.{AreWithin};
+ghost use Rattle.ci_machine_steps.specs.Prelude.{IsRead, IsLaidOut};
 ghost use Rattle.ci_machine_steps.specs.Pipelines as pipelines;
-ghost use Rattle.ci_machine_steps.specs.Pipelines.{IsLaidOut};
 ghost use Rattle.ci_machine_pipelines.specs.Creations.{layout_view, origin, origin_view, plan_fault, LaysOut};
 
 use crate::creation::{Creation, records_of};

@@ -1,17 +1,8 @@
 -- Jobs that are shown, one after the other.
-use Rattle.std.specs.Prelude.{◌≡◌, ℕ, ◌+◌, ◌<◌, ◌≤◌, List, [], ◌∷◌, ◌++◌, length, map, drop, slice_index_or}
-use Rattle.std.proofs.Common.{sym, ap, ◌∙◌}
+use Rattle.std.proofs.Common.{◌≡◌, ℕ, ◌+◌, ◌<◌, ◌≤◌, List, [], ◌∷◌, ◌++◌, length, map, drop, slice_index_or, sym, ap, ◌∙◌}
 use Rattle.std.proofs.lemmas.List.{append-nil, append_assoc, at_drop_more, drop_all, map_push}
 use Rattle.serde_json.specs.Data.{Data}
-use Rattle.ci_board.specs.declared.facts.Facts.{Facts}
-use Rattle.ci_board.specs.declared.facts.Row.{Row}
-use Rattle.ci_machine.specs.declared.records.Attempt.{Attempt}
-use Rattle.ci_machine.specs.declared.records.Job.{Job}
-use Rattle.ci_machine.specs.declared.records.Claim.{Claim}
-use Rattle.ci_machine.specs.declared.records.Need.{Need}
-use Rattle.ci_machine.specs.declared.records.Runner.{Runner}
-use Rattle.ci_machine.specs.Bodies.{printed_status, job_data, jobs_data}
-use Rattle.ci_machine.specs.Listings.{told_job, told_jobs}
+use Rattle.ci_machine_steps.specs.Prelude.{Facts, Row, Attempt, Job, Claim, Need, Runner, printed_status, job_data, jobs_data, told_job, told_jobs}
 
 -- one more, as it is seen
 pub pushed_as : {V : Type 0} (view : V → Data) (before after : List V) (v : V) (d : Data) → after ≡ before ++ v ∷ [] → view v ≡ d → map view after ≡ map view before ++ d ∷ []

@@ -3,19 +3,10 @@ use Rattle.std.proofs.Common.{◌≡◌, ◌||◌, ℕ, List, [], ◌∷◌, map
 use Rattle.serde_json.specs.Data.{Data, string, number, unsigned}
 use Rattle.serde_json.specs.View.{items_of}
 use Rattle.serde_json.specs.Written.{has_float, items_have_float}
-use Rattle.ci_machine.specs.declared.records.Attempt.{Attempt}
-use Rattle.ci_machine.specs.declared.records.Pipeline.{Pipeline}
-use Rattle.ci_machine.specs.declared.records.PipelineWithStatus.{PipelineWithStatus}
-use Rattle.ci_machine.specs.declared.records.Runner.{Runner}
-use Rattle.ci_machine.specs.declared.records.Job.{Job}
-use Rattle.ci_machine.specs.declared.records.Need.{Need}
-use Rattle.ci_machine.specs.declared.records.Claim.{Claim}
-use Rattle.ci_machine.specs.declared.records.JobVariable.{JobVariable}
-use Rattle.ci_machine.specs.declared.records.QueuedJob.{QueuedJob}
-use Rattle.ci_machine.specs.Listings.{number_or_null, text_or_null, listed, listed_pipeline_data, exit_of, reason_of, runner_or_null, attempt_data, attempts_among, needs_among, told_jobs}
-use Rattle.ci_machine.specs.Bodies.{jobs_data, pipeline_data, variable_data, granted_variables, grant_data}
-use Rattle.ci_board.specs.declared.facts.Facts.{Facts}
-use Rattle.ci_board.specs.declared.facts.Row.{Row}
+use Rattle.ci_machine_steps.specs.Prelude.{Attempt, Pipeline, PipelineWithStatus, Runner, Job, Need, Claim, JobVariable, QueuedJob, number_or_null, text_or_null, listed}
+use Rattle.ci_machine_steps.specs.Prelude.{listed_pipeline_data, exit_of, reason_of, runner_or_null, attempt_data, needs_among, told_jobs, jobs_data, pipeline_data, variable_data}
+use Rattle.ci_machine_steps.specs.Prelude.{granted_variables, grant_data, Facts, Row}
+use Rattle.ci_machine.specs.Listings.{attempts_among}
 use Rattle.ci_machine_plans.specs.declared.listed_jobs.ToldGroup.{ToldGroup}
 use Rattle.ci_machine_plans.specs.Objects.{told_group}
 

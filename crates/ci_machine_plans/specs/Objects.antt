@@ -2,12 +2,8 @@
 use Rattle.std.specs.Prelude.{List, map, codes}
 use Rattle.serde_json.specs.Data.{Data, Members, array, object, member, no_members, string, number, unsigned}
 use Rattle.serde_json.specs.View.{members_view, items_of}
-use Rattle.ci_machine.specs.declared.records.QueuedJob.{QueuedJob}
-use Rattle.ci_machine.specs.declared.records.Runner.{Runner}
-use Rattle.ci_machine.specs.declared.records.Attempt.{Attempt}
-use Rattle.ci_machine.specs.declared.records.Need.{Need}
-use Rattle.ci_machine.specs.declared.records.Job.{Job}
-use Rattle.ci_machine.specs.Listings.{attempt_data, attempts_among, group_data, listed, needs_among, text_or_null}
+use Rattle.ci_machine_steps.specs.Prelude.{QueuedJob, Runner, Attempt, Need, Job, attempt_data, group_data, listed, needs_among, text_or_null}
+use Rattle.ci_machine.specs.Listings.{attempts_among}
 use Rattle.ci_machine_plans.specs.declared.object.Object.{Object}
 use Rattle.ci_machine_plans.specs.declared.listed_jobs.ToldGroup.{ToldGroup}
 

@@ -1,22 +1,14 @@
 -- What is to be made is made unless something refuses it.
 use Rattle.std.specs.Prelude.{ℕ, not, List, length, if◌then◌else◌, nat_lt, Option, Some, None}
-use Rattle.ci_values.specs.Names.{is_name}
-use Rattle.ci_values.specs.declared.limits.TheConstants.{MAX_NUMBER}
-use Rattle.ci_machine.specs.declared.reply.Code.TheVariants.{M2, M15}
-use Rattle.ci_machine.specs.declared.reply.FaultCode.TheVariants.{K}
-use Rattle.ci_machine.specs.declared.reply.Detail.TheVariants as detail
+use Rattle.ci_machine_steps.specs.Prelude.{is_name, MAX_NUMBER, M2, M15, K, Detail, Project, NewRunner, Plan, refused, faulted, are_names, lacks_project}
 use Rattle.ci_config.specs.declared.limits.TheConstants.{MAX_TAGS}
-use Rattle.ci_machine.specs.declared.records.Project.{Project}
-use Rattle.ci_machine.specs.declared.request.NewRunner.{NewRunner}
-use Rattle.ci_machine_steps.specs.Plans.{Plan, refused, faulted}
-use Rattle.ci_machine_steps.specs.Runners.{are_names, lacks_project}
 use Rattle.ci_machine_plans.specs.declared.replies.Refusal.{Refusal}
 use Rattle.ci_machine_plans.specs.declared.replies.Refusal.TheVariants.{Code, Fault}
 
 -- the plan that refuses it
 abbrev pub unmade : Refusal → Plan
 unmade (Code code) = refused code
-unmade (Fault code) = faulted (detail.Code code)
+unmade (Fault code) = faulted (Detail.Code code)
 
 -- this plan, unless something refuses it
 abbrev pub unless : Option Refusal → Plan → Plan
@@ -27,8 +19,8 @@ unless (Some refusal) made = unmade refusal
 -- is there
 abbrev pub of_runner : NewRunner → Option Project → ℕ → Plan → Plan
 of_runner new project next made =
-    if nat_lt MAX_TAGS (length new.tags) then faulted (detail.Code (K 11))
-    else if not (are_names new) then faulted (detail.Code (K 16))
+    if nat_lt MAX_TAGS (length new.tags) then faulted (Detail.Code (K 11))
+    else if not (are_names new) then faulted (Detail.Code (K 16))
     else if lacks_project new.project project then refused M2
     else if nat_lt MAX_NUMBER next then refused M15
     else made
@@ -36,6 +28,6 @@ of_runner new project next made =
 -- this plan of a record with a name and this next number, unless one of the two refuses it
 abbrev pub named : List ℕ → ℕ → Plan → Plan
 named name next made =
-    if not (is_name name) then faulted (detail.Code (K 16))
+    if not (is_name name) then faulted (Detail.Code (K 16))
     else if nat_lt MAX_NUMBER next then refused M15
     else made

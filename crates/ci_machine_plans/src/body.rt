@@ -9,7 +9,8 @@ ghost use Rattle.std.specs.Fmt.{decimal};
 ghost use Rattle.serde_json.specs.Data.{array, object, string};
 ghost use Rattle.serde_json.specs.View.{view, items_of};
 ghost use Rattle.serde_json.specs.Written.{compact_text};
-ghost use Rattle.ci_machine.specs.Bodies.{fault_data, created_data, paused_data, pruned_data, mode_data, job_data, file_data, jobs_data, status_of_jobs, pipeline_data, variable_data, with_default, granted_variables, grant_data};
+ghost use Rattle.ci_machine_steps.specs.Prelude.{fault_data, created_data, paused_data, pruned_data, mode_data, job_data, file_data, jobs_data, status_of_jobs, pipeline_data};
+ghost use Rattle.ci_machine_steps.specs.Prelude.{variable_data, with_default, granted_variables, grant_data};
 ghost use Rattle.ci_machine_plans.specs.Objects.{members_of, job_info_data};
 
 use crate::object::Object;

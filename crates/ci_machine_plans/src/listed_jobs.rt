@@ -4,8 +4,7 @@
 ghost use Rattle.std.specs.Prelude.{◌≡◌, length, IfOk};
 ghost use Rattle.serde_json.specs.Data.{array, number, unsigned};
 ghost use Rattle.serde_json.specs.View.{view, items_of};
-ghost use Rattle.ci_machine.specs.Listings.{listed, text_or_null, needs_among, told_job, told_jobs};
-ghost use Rattle.ci_machine_steps.specs.Reads.{json};
+ghost use Rattle.ci_machine_steps.specs.Prelude.{listed, text_or_null, needs_among, told_job, told_jobs, json};
 ghost use Rattle.ci_machine_plans.specs.Objects.{members_of, around_members, told_group};
 
 use crate::body::lines;

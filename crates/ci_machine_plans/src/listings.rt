@@ -1,11 +1,12 @@
 //! What is read of a project and of what it has: as compact JSON, the members of each object in the order of their bytes.
 
-ghost use Rattle.std.specs.Prelude.{◌≡◌, false, find, map, ◌==◌, codes, IfOk};
-ghost use Rattle.std.specs.Option.{option_copied};
+ghost use Rattle.std.specs.Prelude.{◌≡◌, false, find, map, ◌==◌, codes, IfOk, option_copied};
 ghost use Rattle.serde_json.specs.Data.{array, member, no_members};
 ghost use Rattle.serde_json.specs.View.{view, items_of};
 ghost use Rattle.serde_json.specs.Written.{compact_text, has_float};
-ghost use Rattle.ci_machine.specs.Listings.{number_or_null, text_or_null, listed, project_data, is_tag, listed_pipeline_data, exit_of, reason_of, runner_or_null, attempt_data, attempts_among};
+ghost use Rattle.ci_machine_steps.specs.Prelude.{number_or_null, text_or_null, listed, project_data, is_tag, listed_pipeline_data, exit_of, reason_of, runner_or_null};
+ghost use Rattle.ci_machine_steps.specs.Prelude.{attempt_data};
+ghost use Rattle.ci_machine.specs.Listings.{attempts_among};
 ghost use Rattle.ci_machine_steps.specs.Reads as reads;
 ghost use Rattle.ci_machine_plans.specs.Objects.{members_of};
 

@@ -5,7 +5,7 @@ ghost use Rattle.std.specs.Prelude.{◌≡◌, false, IfOk};
 ghost use Rattle.serde_json.specs.Data.{no_members, boolean, number, string, object, unsigned, put as with_member};
 ghost use Rattle.serde_json.specs.View.{view};
 ghost use Rattle.serde_json.specs.Written.{compact_text, has_float};
-ghost use Rattle.ci_machine.specs.Dates.{stamp_text};
+ghost use Rattle.ci_machine_steps.specs.Prelude.{stamp_text};
 ghost use Rattle.ci_machine_plans.specs.Objects.{members_of};
 
 use ci_machine::moment::{Moment, stamp_text};

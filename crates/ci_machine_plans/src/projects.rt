@@ -1,7 +1,6 @@
 //! A project is to be made, or asked for.
 
-ghost use Rattle.std.specs.Prelude.{◌≡◌, IfOk};
-ghost use Rattle.std.specs.Option.{option_copied};
+ghost use Rattle.std.specs.Prelude.{◌≡◌, IfOk, option_copied};
 ghost use Rattle.std.specs.Result.{result_map_both};
 ghost use Rattle.ci_machine_steps.specs.Plans as plans;
 ghost use Rattle.ci_machine_steps.specs.Projects as projects;

@@ -5,7 +5,7 @@ ghost use Rattle.ci_machine.specs.declared.change.RowChange.TheVariants as chang
 ghost use Rattle.ci_machine.specs.declared.change.Record.TheVariants as row;
 ghost use Rattle.ci_machine.specs.declared.reply.Detail.TheVariants as detail;
 ghost use Rattle.serde_json.specs.Written.{compact_text};
-ghost use Rattle.ci_machine.specs.Bodies.{created_data};
+ghost use Rattle.ci_machine_steps.specs.Prelude.{created_data};
 ghost use Rattle.ci_machine_steps.specs.Plans as plans;
 ghost use Rattle.ci_machine_plans.specs.Refusals as refusals;
 

@@ -1,8 +1,7 @@
 //! A runner says how an attempt of its stands.
 
-ghost use Rattle.std.specs.Prelude.{◌≡◌, IfOk};
-ghost use Rattle.std.specs.Option.{option_copied};
-ghost use Rattle.ci_machine.specs.Leases.{finished};
+ghost use Rattle.std.specs.Prelude.{◌≡◌, IfOk, option_copied};
+ghost use Rattle.ci_machine_steps.specs.Prelude.{finished};
 ghost use Rattle.ci_machine_steps.specs.Reports as reports;
 
 use crate::replies::{put, refused, unchanged};

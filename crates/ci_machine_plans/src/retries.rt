@@ -2,7 +2,7 @@
 
 ghost use Rattle.std.specs.Prelude.{◌≡◌, ◌==◌, IfOk, filter, length, count_by};
 ghost use Rattle.ci_machine_steps.specs.Retries as retries;
-ghost use Rattle.ci_machine_steps.specs.Shows.{job_shown};
+ghost use Rattle.ci_machine_steps.specs.Prelude.{job_shown};
 
 use crate::replies::only;
 use crate::shows::job_reply;

@@ -1,9 +1,8 @@
 //! A runner is to be made, or to be paused.
 
-ghost use Rattle.std.specs.Prelude.{◌≡◌, ◌≤◌, None, IfOk};
+ghost use Rattle.std.specs.Prelude.{◌≡◌, ◌≤◌, None, IfOk, option_copied};
 ghost use Rattle.std.specs.List.{list_all};
-ghost use Rattle.std.specs.Option.{option_copied};
-ghost use Rattle.ci_values.specs.Names.{is_name};
+ghost use Rattle.ci_machine_steps.specs.Prelude.{is_name};
 ghost use Rattle.ci_machine_steps.specs.Plans as plans;
 ghost use Rattle.ci_machine_steps.specs.Runners as runners;
 ghost use Rattle.ci_machine_plans.specs.Refusals as refusals;

@@ -1,7 +1,6 @@
 //! A pipeline of a project is asked for, a job of one, or the trace of a job's last attempt.
 
-ghost use Rattle.std.specs.Prelude.{◌≡◌, IfOk, length};
-ghost use Rattle.std.specs.Option.{option_copied};
+ghost use Rattle.std.specs.Prelude.{◌≡◌, IfOk, length, option_copied};
 ghost use Rattle.std.specs.Result.{result_map_both};
 ghost use Rattle.ci_machine_steps.specs.Shows as shows;
 

@@ -1,8 +1,7 @@
 //! A sweep: one lease that is over ends; where there is none, one redundant pipeline is cancelled.
 
-ghost use Rattle.std.specs.Prelude.{◌≡◌, [], None, IfOk};
-ghost use Rattle.std.specs.Option.{option_copied};
-ghost use Rattle.ci_machine.specs.Leases.{cause_of};
+ghost use Rattle.std.specs.Prelude.{◌≡◌, [], None, IfOk, option_copied};
+ghost use Rattle.ci_machine_steps.specs.Prelude.{cause_of};
 ghost use Rattle.ci_machine_steps.specs.Sweeps as sweeps;
 
 use crate::cancels::cancel;

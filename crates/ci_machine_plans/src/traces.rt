@@ -1,8 +1,7 @@
 //! A runner sends the next bytes of a trace.
 
-ghost use Rattle.std.specs.Prelude.{◌≡◌, IfOk, length, max};
-ghost use Rattle.std.specs.Option.{option_copied};
-ghost use Rattle.ci_machine.specs.Leases.{accepted};
+ghost use Rattle.std.specs.Prelude.{◌≡◌, IfOk, length, max, option_copied};
+ghost use Rattle.ci_machine_steps.specs.Prelude.{accepted};
 ghost use Rattle.ci_machine_steps.specs.Traces as traces;
 
 use crate::replies::{and, refused, unchanged};

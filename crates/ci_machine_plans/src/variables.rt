@@ -1,10 +1,9 @@
 //! The variables of a project: one is to have a value, or to go.
 
-ghost use Rattle.std.specs.Prelude.{◌≡◌, ◌+◌, IfOk, count_by, not};
+ghost use Rattle.std.specs.Prelude.{◌≡◌, ◌+◌, IfOk, count_by, not, option_copied};
 ghost use Rattle.std.specs.Str.{bytes_eq};
-ghost use Rattle.std.specs.Option.{option_copied};
 ghost use Rattle.std.specs.Result.{result_map_both};
-ghost use Rattle.ci_machine.specs.declared.records.Project.{Project};
+ghost use Rattle.ci_machine_steps.specs.Prelude.{Project};
 ghost use Rattle.ci_machine_steps.specs.Variables as settings;
 
 use crate::replies::{Refusal, only, refused, unmade};

@@ -1,21 +1,12 @@
 -- A user acts on jobs of a pipeline: the facts of the state after.
-use Rattle.std.specs.Prelude.{◌≡◌, ℕ, ◌-◌, Bool, true, false, ◌||◌, ◌==◌, List, [], ◌∷◌, length, map, filter, if◌then◌else◌, Option, Some, None, option_map}
+use Rattle.std.proofs.Common.{◌≡◌, ℕ, ◌-◌, Bool, true, false, ◌||◌, ◌==◌, List, [], ◌∷◌, length, map, filter, if◌then◌else◌, Option, Some, None, option_map, refl, sym, ap, subst}
+use Rattle.std.proofs.Common.{◌∙◌, inl, inr, ⊎_elim, arith, eqb-true}
 use Rattle.std.specs.List.{last_or, list_any}
-use Rattle.std.proofs.Common.{refl, sym, ap, subst, ◌∙◌, inl, inr, ⊎_elim, arith, eqb-true}
 use Rattle.std.proofs.lemmas.Bool.{cond_both, cond-true, cond-false, and_parts, both_ways, cases_Bool}
 use Rattle.std.proofs.lemmas.List.{length-map}
-use Rattle.ci_values.specs.declared.attempts.AttemptState.{AttemptState}
-use Rattle.ci_values.specs.declared.attempts.AttemptState.TheVariants as state
-use Rattle.ci_values.specs.Attempts.{is_live_state}
-use Rattle.ci_graph.specs.Lists.{is_among}
-use Rattle.ci_machine.specs.declared.records.Attempt.{Attempt}
-use Rattle.ci_machine.specs.declared.records.Job.{Job}
-use Rattle.ci_machine.specs.declared.change.RowChange.TheVariants.{Put}
-use Rattle.ci_machine.specs.declared.change.Record.TheVariants as row
-use Rattle.ci_machine.specs.State.{State, job_cmp, attempt_cmp, put, applied}
-use Rattle.ci_machine.specs.Statuses.{jobs_of, numbers_of, attempts_of, pairs_among, predecessors_by, graph_of, facts_in, facts_of}
-use Rattle.ci_machine.specs.Leases.{is_live}
-use Rattle.ci_machine_steps.specs.Cancels.{is_lease_on, cancelled_attempt}
+use Rattle.ci_machine_steps.specs.Prelude.{AttemptState, is_live_state, Attempt, Job, Put, Record, State, job_cmp, attempt_cmp, put, applied, jobs_of, numbers_of, attempts_of}
+use Rattle.ci_machine_steps.specs.Prelude.{pairs_among, predecessors_by, graph_of, facts_in, facts_of, is_live, is_lease_on, cancelled_attempt}
+use Rattle.ci_machine.specs.Prelude.{is_among}
 use Rattle.ci_machine.proofs.Keyed.{Has, Rising, rising_filter, has_filter, filter_has, has_map, one_at}
 use Rattle.ci_machine_steps.proofs.Behind.{put_all}
 use Rattle.ci_machine_steps.proofs.Created.{applied_append}
@@ -117,17 +108,17 @@ module _ (s : State) (act : Act) (jobs : List Job) (rise : Rising (λ a. a.id) 0
       (map_same of_attempt (λ a. a) (attempts_of s j.id) (λ a m. let w = has_filter (λ (b : Attempt). b.job == j.id) a s.attempts m in stays j.id out a w.0 (eqb-true a.job j.id w.1))
       ∙ map_id (attempts_of s j.id))
 
-live_last : (x : AttemptState) → is_live_state x ≡ true → cancelled_last (Some x) ≡ Some state.Cancelled
-live_last state.Live q = refl
-live_last (state.Succeeded exit) q = absurd (both_ways false refl q)
-live_last (state.Failed cause exit) q = absurd (both_ways false refl q)
-live_last state.Cancelled q = absurd (both_ways false refl q)
+live_last : (x : AttemptState) → is_live_state x ≡ true → cancelled_last (Some x) ≡ Some AttemptState.Cancelled
+live_last AttemptState.Live q = refl
+live_last (AttemptState.Succeeded exit) q = absurd (both_ways false refl q)
+live_last (AttemptState.Failed cause exit) q = absurd (both_ways false refl q)
+live_last AttemptState.Cancelled q = absurd (both_ways false refl q)
 
 ended_last : (x : AttemptState) → is_live_state x ≡ false → cancelled_last (Some x) ≡ Some x
-ended_last state.Live q = absurd (both_ways true q refl)
-ended_last (state.Succeeded exit) q = refl
-ended_last (state.Failed cause exit) q = refl
-ended_last state.Cancelled q = refl
+ended_last AttemptState.Live q = absurd (both_ways true q refl)
+ended_last (AttemptState.Succeeded exit) q = refl
+ended_last (AttemptState.Failed cause exit) q = refl
+ended_last AttemptState.Cancelled q = refl
 
 -- how the last attempt of a cancelled job stands
 module _ (s : State) (jobs : List Job) (rise : Rising (λ a. a.id) 0 s.attempts) (n : ℕ) (here : is_among (map (λ j. j.id) jobs) n ≡ true) where
@@ -197,11 +188,11 @@ module _ (s : State) (act : Act) (p : ℕ) (test : Job → Bool) (sound : Sound 
   done_rise : Rising job_id 0 done_to
   done_rise = rising_filter job_id test 0 (jobs_of s p) (rising_filter job_id (λ (j : Job). j.pipeline == p) 0 s.jobs sound.jobs)
 
-  put_jobs : (js : List Job) (r : State) → applied (map (λ j. Put (row.Job (marked act s j))) js) r ≡ record r { jobs = put_all job_cmp (map (marked act s) js) r.jobs }
+  put_jobs : (js : List Job) (r : State) → applied (map (λ j. Put (Record.Job (marked act s j))) js) r ≡ record r { jobs = put_all job_cmp (map (marked act s) js) r.jobs }
   put_jobs [] r = refl
   put_jobs (j ∷ js) r = put_jobs js (record r { jobs = put job_cmp (marked act s j) r.jobs })
 
-  put_attempts : (xs : List Attempt) (r : State) → applied (map (λ a. Put (row.Attempt (cancelled_attempt a))) xs) r ≡ record r { attempts = put_all attempt_cmp (map cancelled_attempt xs) r.attempts }
+  put_attempts : (xs : List Attempt) (r : State) → applied (map (λ a. Put (Record.Attempt (cancelled_attempt a))) xs) r ≡ record r { attempts = put_all attempt_cmp (map cancelled_attempt xs) r.attempts }
   put_attempts [] r = refl
   put_attempts (a ∷ xs) r = put_attempts xs (record r { attempts = put attempt_cmp (cancelled_attempt a) r.attempts })
 
@@ -211,8 +202,8 @@ module _ (s : State) (act : Act) (p : ℕ) (test : Job → Bool) (sound : Sound 
       = puts_all job_id (marked act s) (marked_id act s) 0 done_to s.jobs done_rise sound.jobs (λ j k. (there j k).0) in
       let attempts_put : put_all attempt_cmp (map cancelled_attempt ended) s.attempts ≡ map new_attempt s.attempts
       = puts_all attempt_id cancelled_attempt (λ a. refl) 0 ended s.attempts (ended_rise act s.attempts done_to sound.attempts) sound.attempts (λ a k. (ended_are act s.attempts done_to a k).has) in
-      applied_append (map (λ j. Put (row.Job (marked act s j))) done_to) (map (λ a. Put (row.Attempt (cancelled_attempt a))) ended) s
-      ∙ (ap (applied (map (λ a. Put (row.Attempt (cancelled_attempt a))) ended)) (put_jobs done_to s)
+      applied_append (map (λ j. Put (Record.Job (marked act s j))) done_to) (map (λ a. Put (Record.Attempt (cancelled_attempt a))) ended) s
+      ∙ (ap (applied (map (λ a. Put (Record.Attempt (cancelled_attempt a))) ended)) (put_jobs done_to s)
       ∙ (put_attempts ended (record s { jobs = put_all job_cmp (map (marked act s) done_to) s.jobs })
       ∙ (λ i. record s { jobs = jobs_put i; attempts = attempts_put i })))
 

@@ -1,22 +1,11 @@
 -- A user acts on jobs of a pipeline: the rows after it, and of which other jobs its jobs wait then, which is as before.
-use Rattle.std.specs.Prelude.{◌≡◌, ℕ, Bool, ◌==◌, List, ◌++◌, length, map, filter, Option}
-use Rattle.std.proofs.Common.{refl, sym, ap, ◌∙◌, ⊎_elim, eq-eqb, eqb-true}
+use Rattle.std.proofs.Common.{◌≡◌, ℕ, Bool, ◌==◌, List, ◌++◌, length, map, filter, Option, refl, sym, ap, ◌∙◌, ⊎_elim, eq-eqb, eqb-true}
 use Rattle.std.proofs.lemmas.Bool.{cond-false, cases_Bool, eqb-false}
 use Rattle.std.proofs.lemmas.List.{length-map}
 use Rattle.std.proofs.lemmas.List.Folds.{flat_map-map}
-use Rattle.ci_graph.specs.Lists.{is_among}
-use Rattle.ci_board.specs.declared.facts.Row.{Row}
-use Rattle.ci_machine.specs.declared.records.BoardRow.{BoardRow}
-use Rattle.ci_machine.specs.declared.records.GroupMode.{GroupMode}
-use Rattle.ci_machine.specs.declared.records.Job.{Job}
-use Rattle.ci_machine.specs.declared.records.WaitingJob.{WaitingJob}
-use Rattle.ci_machine.specs.State.{State}
-use Rattle.ci_machine.specs.Kept.{put_rows}
-use Rattle.ci_machine.specs.Statuses.{jobs_of, numbers_of, rows_of, row_for, status_for}
-use Rattle.ci_machine.specs.Groups.{held_claim, waiting_claim, is_first, claims_on}
-use Rattle.ci_machine.specs.Holders.{holders}
-use Rattle.ci_machine.specs.Lookups.{queued}
-use Rattle.ci_machine.specs.Waiting.{waits_as, waiting, groups_with, claims_in}
+use Rattle.ci_machine.specs.Prelude.{is_among}
+use Rattle.ci_machine_steps.specs.Prelude.{Row, BoardRow, GroupMode, Job, WaitingJob, State, put_rows, jobs_of, numbers_of, rows_of, row_for, status_for, held_claim, waiting_claim}
+use Rattle.ci_machine_steps.specs.Prelude.{is_first, claims_on, holders, queued, waits_as, waiting, groups_with, claims_in}
 use Rattle.ci_machine.proofs.Keyed.{Has, filter_has, has_map}
 use Rattle.ci_machine_steps.proofs.Sound.{Sound}
 use Rattle.ci_machine_statuses.specs.declared.act.Act.{Act}

@@ -1,21 +1,14 @@
 -- A user acts on jobs of a pipeline: the places of these jobs on its board, and the board after.
-use Rattle.std.specs.Prelude.{◌≡◌, ℕ, zero, suc, ◌+◌, ◌<◌, ◌≤◌, Bool, true, false, cond, ◌&&◌, ◌||◌, ◌==◌, List, [], ◌∷◌, ◌++◌, length, map, filter, All, if◌then◌else◌, Option, Some, slice_index_or, slice_set}
+use Rattle.std.proofs.Common.{◌≡◌, ℕ, zero, suc, ◌+◌, ◌<◌, ◌≤◌, Bool, true, false, cond, ◌&&◌, ◌||◌, ◌==◌, List, [], ◌∷◌, ◌++◌, length, map, filter, All, if◌then◌else◌, Option}
+use Rattle.std.proofs.Common.{Some, slice_index_or, slice_set, refl, sym, ap, subst, ◌∙◌, inl, inr, ⊎_elim, arith, eqb-true, eq-eqb, ne_eqb}
 use Rattle.std.specs.List.{range_with_len}
-use Rattle.std.proofs.Common.{refl, sym, ap, subst, ◌∙◌, inl, inr, ⊎_elim, arith, eqb-true, eq-eqb, ne_eqb}
 use Rattle.std.proofs.lemmas.Bool.{cond_both, cond-true, cond-false, cases_Bool, both_ways, eqb-false}
 use Rattle.std.proofs.lemmas.List.{append-nil, get_or-map, get_or-set_same, get_or-set_other, length-map, length-set}
 use Rattle.std.proofs.lemmas.List.Elements.{filter-append}
-use Rattle.ci_graph.specs.Lists.{number_at}
-use Rattle.ci_board.specs.declared.facts.Facts.{Facts}
-use Rattle.ci_board.specs.declared.facts.FactsChange.{FactsChange}
-use Rattle.ci_board.specs.declared.facts.Row.{Row}
-use Rattle.ci_board.specs.Rows.{AreRows, BoardState, no_facts, no_row, facts_at, row_at, replaced, is_named}
-use Rattle.ci_machine.specs.declared.records.Job.{Job}
-use Rattle.ci_machine.specs.declared.records.BoardRow.{BoardRow}
-use Rattle.ci_machine.specs.State.{State, applied}
-use Rattle.ci_machine.specs.Kept.{put_rows}
-use Rattle.ci_machine.specs.Statuses.{jobs_of, numbers_of, graph_of, facts_in, facts_of, rows_of, row_for, status_for, AreRowsOf, AreBoard}
-use Rattle.ci_machine.specs.Options.{plain_options}
+use Rattle.ci_machine.specs.Prelude.{number_at}
+use Rattle.ci_machine_steps.specs.Prelude.{Facts, FactsChange, Row, AreRows, BoardState, no_facts, no_row, facts_at, replaced, is_named, Job, BoardRow, State, applied, put_rows}
+use Rattle.ci_machine_steps.specs.Prelude.{jobs_of, numbers_of, graph_of, facts_in, facts_of, rows_of, row_for, status_for, AreRowsOf, AreBoard, plain_options}
+use Rattle.ci_board.specs.Prelude.{row_at}
 use Rattle.ci_machine.proofs.Keyed.{Has, Rising, rising_from, rising_filter, has_filter, filter_has, filter_none, map_has, All-from_has}
 use Rattle.ci_machine_steps.proofs.Ranges.{range_more}
 use Rattle.ci_machine_steps.proofs.Sound.{Sound}

@@ -1,25 +1,10 @@
 -- What a user does to jobs: what its outcome shows.
-use Rattle.std.specs.Prelude.{◌≡◌, ℕ, ◌<◌, Bool, true, List, [], ◌∷◌, length, map, Some, None, slice_index_or}
-use Rattle.std.proofs.Common.{refl, sym, ap, subst, ◌∙◌, inl}
+use Rattle.std.proofs.Common.{◌≡◌, ℕ, ◌<◌, Bool, true, List, [], ◌∷◌, length, map, Some, None, slice_index_or, refl, sym, ap, subst, ◌∙◌, inl}
 use Rattle.std.proofs.lemmas.Bool.{cond-true}
 use Rattle.std.proofs.lemmas.List.{get_or-map, length-map}
-use Rattle.ci_board.specs.declared.facts.Row.{Row}
-use Rattle.ci_board.specs.Rows.{no_row, row_at}
-use Rattle.ci_board.specs.declared.facts.Status.{Status}
-use Rattle.ci_board.specs.declared.facts.Status.TheVariants as status
-use Rattle.ci_machine.specs.declared.records.Pipeline.{Pipeline}
-use Rattle.ci_machine.specs.declared.records.Job.{Job}
-use Rattle.ci_machine.specs.declared.records.BoardRow.{BoardRow}
-use Rattle.ci_machine.specs.declared.records.Claim.{Claim}
-use Rattle.ci_machine.specs.State.{State}
-use Rattle.ci_machine.specs.Kept.{put_rows}
-use Rattle.ci_machine.specs.Waiting.{claims_in}
-use Rattle.ci_machine.specs.Statuses.{jobs_of, numbers_of, facts_of, row_for, status_for}
-use Rattle.ci_machine.specs.declared.change.RowChange.{RowChange}
-use Rattle.ci_machine.specs.declared.reply.Reply.{Reply}
-use Rattle.ci_machine.specs.Bodies.{printed_status, job_data, jobs_data}
-use Rattle.ci_machine_steps.specs.Shows.{pipeline_shown}
-use Rattle.ci_machine_steps.specs.Acts.{ShowsJobAfter, ShowsPipelineAfter}
+use Rattle.ci_machine_steps.specs.Prelude.{Row, no_row, Status, Pipeline, Job, BoardRow, Claim, State, put_rows, claims_in, jobs_of, numbers_of, facts_of, row_for, status_for}
+use Rattle.ci_machine_steps.specs.Prelude.{RowChange, Reply, printed_status, job_data, jobs_data, pipeline_shown, ShowsJobAfter, ShowsPipelineAfter}
+use Rattle.ci_board.specs.Prelude.{row_at}
 use Rattle.ci_machine.proofs.Keyed.{Has, has_from_all}
 use Rattle.ci_machine_steps.proofs.Sound.{Sound}
 use Rattle.ci_machine_steps.proofs.Alike.{shown_alike}
@@ -51,9 +36,6 @@ module _ (act : Act) (s : State) (board : List BoardRow) (job : Job) (o : Outcom
   abbrev p : ℕ
   p = job.pipeline
 
-  abbrev test : Job → Bool
-  test = is_acted_on act (Some job.id) board
-
   alone : acted_jobs act (Some job.id) s board p ≡ job ∷ []
   alone = one_acted act s board job sound has ∙ cond-true (is_permitted act (status_for board job.id)) (job ∷ []) [] permitted
 
@@ -84,30 +66,30 @@ module _ (act : Act) (s : State) (board : List BoardRow) (job : Job) (o : Outcom
 
 -- what is shown of a job doesn't change
 marked_shown : (act : Act) (s : State) (claims : List Claim) (project : ℕ) (status : Status) (j : Job) → job_data (printed_status claims project (marked act s j) status) (marked act s j) ≡ job_data (printed_status claims project j status) j
-marked_shown Play s claims project status.Created j = refl
-marked_shown Play s claims project status.Pending j = refl
-marked_shown Play s claims project status.Running j = refl
-marked_shown Play s claims project status.Success j = refl
-marked_shown Play s claims project status.Failed j = refl
-marked_shown Play s claims project status.Canceled j = refl
-marked_shown Play s claims project status.Skipped j = refl
-marked_shown Play s claims project status.Manual j = refl
-marked_shown Retry s claims project status.Created j = refl
-marked_shown Retry s claims project status.Pending j = refl
-marked_shown Retry s claims project status.Running j = refl
-marked_shown Retry s claims project status.Success j = refl
-marked_shown Retry s claims project status.Failed j = refl
-marked_shown Retry s claims project status.Canceled j = refl
-marked_shown Retry s claims project status.Skipped j = refl
-marked_shown Retry s claims project status.Manual j = refl
-marked_shown Cancel s claims project status.Created j = refl
-marked_shown Cancel s claims project status.Pending j = refl
-marked_shown Cancel s claims project status.Running j = refl
-marked_shown Cancel s claims project status.Success j = refl
-marked_shown Cancel s claims project status.Failed j = refl
-marked_shown Cancel s claims project status.Canceled j = refl
-marked_shown Cancel s claims project status.Skipped j = refl
-marked_shown Cancel s claims project status.Manual j = refl
+marked_shown Play s claims project Status.Created j = refl
+marked_shown Play s claims project Status.Pending j = refl
+marked_shown Play s claims project Status.Running j = refl
+marked_shown Play s claims project Status.Success j = refl
+marked_shown Play s claims project Status.Failed j = refl
+marked_shown Play s claims project Status.Canceled j = refl
+marked_shown Play s claims project Status.Skipped j = refl
+marked_shown Play s claims project Status.Manual j = refl
+marked_shown Retry s claims project Status.Created j = refl
+marked_shown Retry s claims project Status.Pending j = refl
+marked_shown Retry s claims project Status.Running j = refl
+marked_shown Retry s claims project Status.Success j = refl
+marked_shown Retry s claims project Status.Failed j = refl
+marked_shown Retry s claims project Status.Canceled j = refl
+marked_shown Retry s claims project Status.Skipped j = refl
+marked_shown Retry s claims project Status.Manual j = refl
+marked_shown Cancel s claims project Status.Created j = refl
+marked_shown Cancel s claims project Status.Pending j = refl
+marked_shown Cancel s claims project Status.Running j = refl
+marked_shown Cancel s claims project Status.Success j = refl
+marked_shown Cancel s claims project Status.Failed j = refl
+marked_shown Cancel s claims project Status.Canceled j = refl
+marked_shown Cancel s claims project Status.Skipped j = refl
+marked_shown Cancel s claims project Status.Manual j = refl
 
 pub marked_group : (act : Act) (s : State) (j : Job) → (marked act s j).options.resource_group ≡ j.options.resource_group
 marked_group Play s j = refl

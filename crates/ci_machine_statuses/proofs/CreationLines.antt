@@ -1,26 +1,12 @@
 -- A pipeline is made: no group is held that was not, and its jobs wait for the groups for which they would have waited before.
-use Rattle.std.specs.Prelude.{◌≡◌, ℕ, ◌==◌, List, [], ◌∷◌, ◌++◌, map, filter, find, flat_map, Option, Some, option_map}
-use Rattle.std.proofs.Common.{refl, sym, ap, subst, ◌∙◌}
+use Rattle.std.proofs.Common.{◌≡◌, ℕ, ◌==◌, List, [], ◌∷◌, ◌++◌, map, filter, find, flat_map, Option, Some, option_map, sym, ap, subst, ◌∙◌}
 use Rattle.std.proofs.lemmas.Grind.{flat_map-append}
 use Rattle.std.proofs.lemmas.List.{append-nil}
 use Rattle.std.proofs.lemmas.List.Elements.{filter-append}
-use Rattle.ci_board.specs.declared.facts.Row.{Row}
-use Rattle.ci_machine.specs.declared.records.Attempt.{Attempt}
-use Rattle.ci_machine.specs.declared.records.BoardRow.{BoardRow}
-use Rattle.ci_machine.specs.declared.records.GroupMode.{GroupMode}
-use Rattle.ci_machine.specs.declared.records.Job.{Job}
-use Rattle.ci_machine.specs.declared.records.Pipeline.{Pipeline}
-use Rattle.ci_machine.specs.declared.records.WaitingJob.{WaitingJob}
-use Rattle.ci_machine.specs.State.{State, applied}
-use Rattle.ci_machine.specs.Kept.{put_rows}
-use Rattle.ci_machine.specs.Leases.{is_live}
-use Rattle.ci_machine.specs.Statuses.{rows_of, status_for, AreBoard}
-use Rattle.ci_machine.specs.Groups.{held_claim, waiting_claim, is_first}
-use Rattle.ci_machine.specs.Holders.{queued_at, group_held, held_by, held_of, holders}
-use Rattle.ci_machine.specs.Lookups.{job_at, pipeline_at, project_or_none, queued, live_attempts}
-use Rattle.ci_machine.specs.Waiting.{waits_as, waiting, claims_in}
+use Rattle.ci_machine_steps.specs.Prelude.{Row, Attempt, BoardRow, GroupMode, Job, Pipeline, WaitingJob, State, applied, put_rows, is_live, rows_of, status_for, AreBoard}
+use Rattle.ci_machine_steps.specs.Prelude.{held_claim, waiting_claim, is_first, queued_at, group_held, held_by, held_of, holders, job_at, pipeline_at, project_or_none, queued}
+use Rattle.ci_machine_steps.specs.Prelude.{live_attempts, waits_as, waiting, claims_in, Creation, creation_changes}
 use Rattle.ci_machine.proofs.Keyed.{Has, has_filter, find_has, has_from_all}
-use Rattle.ci_machine_steps.specs.Pipelines.{Creation, creation_changes}
 use Rattle.ci_machine_steps.proofs.Created.{after_creation}
 use Rattle.ci_machine_steps.proofs.Sound.{Sound}
 use Rattle.ci_machine_statuses.proofs.Creations.{Created}

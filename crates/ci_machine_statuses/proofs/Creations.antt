@@ -1,14 +1,8 @@
 -- A pipeline that is created is made.
-use Rattle.std.specs.Prelude.{◌≡◌, ℕ, ◌+◌, ◌<◌, ◌≤◌, false, List, [], ◌∷◌, ◌++◌, length, map, Contains, Ok}
-use Rattle.std.specs.Ordering.{nat_cmp, ordering_then}
-use Rattle.std.proofs.Common.{refl, sym, ap, subst, ◌∙◌, ⊎_elim, arith}
-use Rattle.ci_graph_layout.specs.Inclusion.{Given}
-use Rattle.ci_machine.specs.declared.records.Job.{Job}
-use Rattle.ci_machine.specs.declared.records.Need.{Need}
-use Rattle.ci_machine.specs.declared.records.Pipeline.{Pipeline}
-use Rattle.ci_machine.specs.declared.request.NewPipeline.{NewPipeline}
-use Rattle.ci_machine.specs.State.{State, need_cmp, applied}
-use Rattle.ci_machine_steps.specs.Pipelines.{Layout, IsLaidOut, need_of, Creation, creation, creation_changes}
+use Rattle.std.proofs.Common.{◌≡◌, ℕ, ◌+◌, ◌<◌, ◌≤◌, false, List, [], ◌∷◌, ◌++◌, length, map, Contains, Ok, nat_cmp, refl, sym, ap, subst, ◌∙◌, ⊎_elim, arith}
+use Rattle.std.specs.Ordering.{ordering_then}
+use Rattle.ci_graph_layout.specs.Prelude.{Given}
+use Rattle.ci_machine_steps.specs.Prelude.{Job, Need, Pipeline, NewPipeline, State, need_cmp, applied, Layout, IsLaidOut, need_of, Creation, creation, creation_changes}
 use Rattle.ci_machine.proofs.Keyed.{Has, Rising, rising_from, All-from_has, contains_named}
 use Rattle.ci_machine_steps.proofs.Behind.{put_all, all_behind, nat_less}
 use Rattle.ci_machine_steps.proofs.Created.{after_creation, new_rise, new_are, new_numbered, needs_ordered, needs_are, pairs_inside, jobs_behind}

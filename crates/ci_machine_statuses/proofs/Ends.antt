@@ -1,20 +1,9 @@
 -- The end of an attempt: the rows of its pipeline after it.
-use Rattle.std.specs.Prelude.{◌≡◌, ℕ, ◌<◌, ◌==◌, List, [], ◌∷◌, length, map, Some, slice_index_or, slice_set}
-use Rattle.std.proofs.Common.{refl, sym, ap, subst, ◌∙◌}
+use Rattle.std.proofs.Common.{◌≡◌, ℕ, ◌<◌, ◌==◌, List, [], ◌∷◌, length, map, Some, slice_index_or, slice_set, refl, sym, ap, subst, ◌∙◌}
 use Rattle.std.proofs.lemmas.List.{length-map}
-use Rattle.ci_board.specs.declared.facts.Facts.{Facts}
-use Rattle.ci_board.specs.declared.facts.FactsChange.{FactsChange}
-use Rattle.ci_board.specs.declared.facts.Row.{Row}
-use Rattle.ci_board.specs.Rows.{AreRows, BoardState, facts_at, no_facts, replaced}
+use Rattle.ci_machine_steps.specs.Prelude.{Facts, FactsChange, Row, AreRows, BoardState, facts_at, no_facts, replaced, Job, Attempt, BoardRow, Record, Put, State, applied}
+use Rattle.ci_machine_steps.specs.Prelude.{put_rows, jobs_of, numbers_of, graph_of, facts_in, facts_of, rows_of, row_for, AreBoard}
 use Rattle.ci_board.proofs.Assignments.{same_graph}
-use Rattle.ci_machine.specs.declared.records.Job.{Job}
-use Rattle.ci_machine.specs.declared.records.Attempt.{Attempt}
-use Rattle.ci_machine.specs.declared.records.BoardRow.{BoardRow}
-use Rattle.ci_machine.specs.declared.change.Record.TheVariants as row
-use Rattle.ci_machine.specs.declared.change.RowChange.TheVariants.{Put}
-use Rattle.ci_machine.specs.State.{State, applied}
-use Rattle.ci_machine.specs.Kept.{put_rows}
-use Rattle.ci_machine.specs.Statuses.{jobs_of, numbers_of, graph_of, facts_in, facts_of, rows_of, row_for, AreBoard}
 use Rattle.ci_machine.proofs.Keyed.{Has, rising_filter, has_map, has_from_contains}
 use Rattle.ci_machine_steps.proofs.Sound.{Sound}
 use Rattle.ci_machine_statuses.specs.Boards.{IsBoardOf, changed_rows}
@@ -42,7 +31,7 @@ right_there s board p b facts rows is r = same_graph b.graph (graph_of s p) (sym
 
 module _ (s : State) (board : List BoardRow) (p : ℕ) (sound : Sound s) (are : AreBoard s board) (x : Attempt) (live : HasLive s x) where
   abbrev t : State
-  t = applied (Put (row.Attempt x) ∷ []) s
+  t = applied (Put (Record.Attempt x) ∷ []) s
 
   abbrev a : Attempt
   a = live.0

@@ -1,27 +1,12 @@
 -- A grant: the job's own row becomes running, and no other row moves.
-use Rattle.std.specs.Prelude.{◌≡◌, ℕ, zero, suc, ◌+◌, ◌<◌, ◌≤◌, true, ◌==◌, List, [], ◌∷◌, length, map, slice_index_or, slice_set}
-use Rattle.std.proofs.Common.{refl, sym, ap, subst, ◌∙◌, arith, eqb-true, eq-eqb}
+use Rattle.std.proofs.Common.{◌≡◌, ℕ, zero, suc, ◌+◌, ◌<◌, ◌≤◌, true, ◌==◌, List, [], ◌∷◌, length, map, slice_index_or, slice_set, refl, sym, ap, subst, ◌∙◌, arith, eqb-true}
+use Rattle.std.proofs.Common.{eq-eqb}
 use Rattle.std.proofs.lemmas.Bool.{cond_both, eqb-false, false≢true}
 use Rattle.std.proofs.lemmas.List.{get_or-map, length-map}
-use Rattle.ci_values.specs.declared.attempts.AttemptState.TheVariants.{Live}
-use Rattle.ci_values.specs.Attempts.{is_live_state}
-use Rattle.ci_board.specs.declared.facts.Facts.{Facts}
-use Rattle.ci_board.specs.declared.facts.Row.{Row}
-use Rattle.ci_board.specs.declared.facts.Status.{Status}
-use Rattle.ci_board.specs.declared.facts.Status.TheVariants as status
-use Rattle.ci_board.specs.Effects.{is_status}
-use Rattle.ci_board.specs.Rows.{AreRows, facts_at, row_at, no_facts, no_row}
+use Rattle.ci_machine_steps.specs.Prelude.{Live, is_live_state, Facts, Row, Status, is_status, AreRows, facts_at, no_facts, no_row, Attempt, Job, BoardRow, Record, Counter, State}
+use Rattle.ci_machine_steps.specs.Prelude.{applied, put, row_cmp, numbered, jobs_of, numbers_of, graph_of, facts_in, facts_of, rows_of, row_for, AreBoard, is_pending}
+use Rattle.ci_board.specs.Prelude.{row_at}
 use Rattle.ci_board.proofs.Started.{started_rows}
-use Rattle.ci_machine.specs.declared.records.Attempt.{Attempt}
-use Rattle.ci_machine.specs.declared.records.Job.{Job}
-use Rattle.ci_machine.specs.declared.records.BoardRow.{BoardRow}
-use Rattle.ci_machine.specs.declared.change.Record.TheVariants as row
-use Rattle.ci_machine.specs.declared.change.Counter.TheVariants as counter
-use Rattle.ci_machine.specs.State.{State, applied, put}
-use Rattle.ci_machine.specs.Kept.{row_cmp}
-use Rattle.ci_machine_steps.specs.Plans.{numbered}
-use Rattle.ci_machine.specs.Statuses.{jobs_of, numbers_of, graph_of, facts_in, facts_of, rows_of, row_for, AreBoard}
-use Rattle.ci_machine_steps.specs.Step.{is_pending}
 use Rattle.ci_machine.proofs.Keyed.{Has, Rising, rising_from, rising_filter, has_map, filter_has}
 use Rattle.ci_machine_steps.proofs.Sound.{Sound}
 use Rattle.ci_machine_statuses.specs.Changes.{started_row}
@@ -35,15 +20,15 @@ abbrev number : Job → ℕ
 number j = j.id
 
 -- a status that is told to be pending is
-pub pending_is : (s : Status) → is_status s status.Pending ≡ true → s ≡ status.Pending
-pending_is status.Pending e = refl
-pending_is status.Created e = absurd (false≢true e)
-pending_is status.Running e = absurd (false≢true e)
-pending_is status.Success e = absurd (false≢true e)
-pending_is status.Failed e = absurd (false≢true e)
-pending_is status.Canceled e = absurd (false≢true e)
-pending_is status.Skipped e = absurd (false≢true e)
-pending_is status.Manual e = absurd (false≢true e)
+pub pending_is : (s : Status) → is_status s Status.Pending ≡ true → s ≡ Status.Pending
+pending_is Status.Pending e = refl
+pending_is Status.Created e = absurd (false≢true e)
+pending_is Status.Running e = absurd (false≢true e)
+pending_is Status.Success e = absurd (false≢true e)
+pending_is Status.Failed e = absurd (false≢true e)
+pending_is Status.Canceled e = absurd (false≢true e)
+pending_is Status.Skipped e = absurd (false≢true e)
+pending_is Status.Manual e = absurd (false≢true e)
 
 -- a put row is that of its job among the rows of ascending numbers
 row_replaced : (low : ℕ) (ns : List ℕ) (board : List BoardRow) (r : BoardRow) (pos : ℕ) → Rising (λ n. n) low ns → pos < length ns → slice_index_or ns pos 0 ≡ r.job
@@ -60,7 +45,7 @@ row_replaced low (n ∷ ns) board r (suc pos) rise l at =
 module _ (s : State) (board : List BoardRow) (j : Job) (x : Attempt) (sound : Sound s) (are : AreBoard s board) (has : Has j s.jobs) (pending : is_pending board j ≡ true)
     (at_next : x.id ≡ s.next.attempt) (its_job : x.job ≡ j.id) (live : x.state ≡ Live) where
   abbrev t : State
-  t = applied (numbered (row.Attempt x) counter.Attempt s.next.attempt) s
+  t = applied (numbered (Record.Attempt x) Counter.Attempt s.next.attempt) s
 
   abbrev its_row : BoardRow
   its_row = started_row board j.id
@@ -97,10 +82,10 @@ module _ (s : State) (board : List BoardRow) (j : Job) (x : Attempt) (sound : So
         let long : length rows ≡ length ns = length-map ns (row_for board) in
         let facts_long : length (facts_of s p) ≡ length ns = length-map (jobs_of s p) (facts_in s) ∙ sym (length-map (jobs_of s p) number) in
         let its : row_at rows pos ≡ row_for board j.id = get_or-map (row_for board) ns pos 0 no_row l ∙ ap (row_for board) at in
-        let is_pending_row : (row_at rows pos).status ≡ status.Pending = ap (λ (r : Row). r.status) its ∙ pending_is (row_for board j.id).status pending in
+        let is_pending_row : (row_at rows pos).status ≡ Status.Pending = ap (λ (r : Row). r.status) its ∙ pending_is (row_for board j.id).status pending in
         subst (λ f. AreRows (graph_of s p) f (map (row_for after) ns)) (sym facts_here)
         (subst (λ r. AreRows (graph_of s p) (slice_set (facts_of s p) pos fresh) r)
-        (ap (λ (r : Row). slice_set rows pos (record r { status = status.Running })) its
+        (ap (λ (r : Row). slice_set rows pos (record r { status = Status.Running })) its
         ∙ sym (row_replaced 0 ns board its_row pos (numbers_rise s p sound) l at))
         (started_rows (graph_of s p) (facts_of s p) rows pos fresh (omega arith) (omega arith) is_pending_row (ap is_live_state live) (are.each p)))
 

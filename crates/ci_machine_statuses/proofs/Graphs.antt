@@ -1,12 +1,9 @@
 -- The graph of a pipeline's jobs, from its pairs.
-use Rattle.std.specs.Prelude.{◌≡◌, ℕ, zero, suc, ◌+◌, ◌<◌, List, [], length, slice_index_or}
+use Rattle.std.proofs.Common.{◌≡◌, ℕ, zero, suc, ◌+◌, ◌<◌, List, [], length, slice_index_or, refl, sym, ap, ◌∙◌, arith}
 use Rattle.std.specs.List.{range_with_len}
-use Rattle.std.proofs.Common.{refl, sym, ap, ◌∙◌, arith}
 use Rattle.std.proofs.lemmas.List.{ext_get_or, get_or-map, length-map}
-use Rattle.ci_graph.specs.Lists.{distinct}
-use Rattle.ci_graph.specs.Pairs.{firsts_of}
-use Rattle.ci_graph.specs.JobGraph.{JobGraph, IsJobGraph, HasPairs}
-use Rattle.ci_machine.specs.Statuses.{predecessors_by}
+use Rattle.ci_machine.specs.Prelude.{distinct, firsts_of, JobGraph, IsJobGraph, HasPairs}
+use Rattle.ci_machine_steps.specs.Prelude.{predecessors_by}
 
 range_long : (low n : ℕ) → length (range_with_len low n) ≡ n
 range_long low zero = refl

@@ -1,26 +1,11 @@
 -- A user's act: the groups of the leases that it ends are free, and its pipeline may turn.
-use Rattle.std.specs.Prelude.{◌≡◌, ℕ, Bool, true, false, ◌==◌, ◌&&◌, List, [], map, filter, flat_map, Option, Some, None, option_map}
+use Rattle.std.proofs.Common.{◌≡◌, ℕ, Bool, true, false, ◌==◌, ◌&&◌, List, [], map, filter, flat_map, Option, Some, None, option_map, refl, sym, ap, subst, ◌∙◌, ⊎_elim}
 use Rattle.std.specs.List.{list_any}
-use Rattle.std.proofs.Common.{refl, sym, ap, subst, ◌∙◌, ⊎_elim}
 use Rattle.std.proofs.lemmas.Bool.{cond-true, cond-false, cases_Bool, both_ways, false≢true, and_parts}
-use Rattle.ci_graph.specs.Lists.{is_among}
-use Rattle.ci_board.specs.declared.facts.Status.{Status}
-use Rattle.ci_machine.specs.declared.records.Attempt.{Attempt}
-use Rattle.ci_machine.specs.declared.records.BoardRow.{BoardRow}
-use Rattle.ci_machine.specs.declared.records.Holder.{Holder}
-use Rattle.ci_machine.specs.declared.records.Job.{Job}
-use Rattle.ci_machine.specs.declared.records.Need.{Need}
-use Rattle.ci_machine.specs.declared.records.Pipeline.{Pipeline}
-use Rattle.ci_machine.specs.State.{State}
-use Rattle.ci_machine.specs.Kept.{Kept, put_rows, written}
-use Rattle.ci_machine.specs.Statuses.{jobs_of, AreBoard}
-use Rattle.ci_machine.specs.Bodies.{status_of_jobs}
-use Rattle.ci_machine.specs.Leases.{is_live}
-use Rattle.ci_machine.specs.Lookups.{job_at, pipeline_at, project_or_none, queued}
-use Rattle.ci_machine_steps.specs.Cancels.{is_lease_on, cancelled_attempt}
-use Rattle.ci_machine.specs.Holders.{group_held, held_by, held_of, AreHolders}
-use Rattle.ci_machine_steps.specs.Step.{with_status}
-use Rattle.ci_machine.specs.Indexes.{unfinished_in, AreIndexes}
+use Rattle.ci_machine.specs.Prelude.{is_among}
+use Rattle.ci_machine_steps.specs.Prelude.{Status, Attempt, BoardRow, Holder, Job, Need, Pipeline, State, Kept, put_rows, written, jobs_of, AreBoard, status_of_jobs, is_live}
+use Rattle.ci_machine_steps.specs.Prelude.{job_at, pipeline_at, project_or_none, queued, is_lease_on, cancelled_attempt, group_held, held_by, held_of, AreHolders, with_status}
+use Rattle.ci_machine_steps.specs.Prelude.{unfinished_in, AreIndexes}
 use Rattle.ci_machine.proofs.Keyed.{Has, has_filter, filter_has, filter_none, has_map, map_has, one_at}
 use Rattle.ci_machine_steps.proofs.Sound.{Sound}
 use Rattle.ci_machine_statuses.specs.declared.act.Act.{Act}

@@ -1,18 +1,7 @@
 -- The changes of an event of one pipeline, one after the other.
-use Rattle.std.specs.Prelude.{◌≡◌, List, [], ◌∷◌, ◌++◌, map, filter, flat_map, option_to_list}
-use Rattle.std.proofs.Common.{refl, ap, ◌∙◌}
-use Rattle.ci_board.specs.declared.facts.Status.{Status}
-use Rattle.ci_machine.specs.declared.records.Attempt.{Attempt}
-use Rattle.ci_machine.specs.declared.records.Holder.{Holder}
-use Rattle.ci_machine.specs.declared.records.Job.{Job}
-use Rattle.ci_machine.specs.declared.records.Pipeline.{Pipeline}
-use Rattle.ci_machine.specs.declared.change.IndexChange.{IndexChange}
-use Rattle.ci_machine.specs.State.{State}
-use Rattle.ci_machine.specs.Kept.{Kept, indexed, indexed_all}
-use Rattle.ci_machine_steps.specs.Cancels.{is_lease_on}
-use Rattle.ci_machine.specs.Redundant.{is_unfinished}
+use Rattle.std.proofs.Common.{◌≡◌, List, [], ◌∷◌, ◌++◌, map, filter, flat_map, option_to_list, refl, ap, ◌∙◌}
+use Rattle.ci_machine_steps.specs.Prelude.{Status, Attempt, Holder, Job, Pipeline, IndexChange, State, Kept, indexed, indexed_all, is_lease_on, is_unfinished, held_of}
 use Rattle.ci_machine.specs.Holders as holders
-use Rattle.ci_machine.specs.Holders.{held_of}
 use Rattle.ci_machine.proofs.Keyed.{Has, has_filter}
 use Rattle.ci_machine_steps.proofs.Sound.{Sound}
 use Rattle.ci_machine_statuses.specs.HolderChanges.{turned, held_among, freed, of_pipeline}

@@ -1,24 +1,9 @@
 -- The end of an attempt: its group is free, and its pipeline may be finished.
-use Rattle.std.specs.Prelude.{◌≡◌, ◌<◌, Bool, true, false, ◌==◌, ◌||◌, ◌&&◌, List, [], ◌∷◌, Some}
-use Rattle.std.proofs.Common.{refl, sym, ap, subst, ◌∙◌, ⊎_elim, eqb-true, eq-eqb}
+use Rattle.std.proofs.Common.{◌≡◌, ◌<◌, Bool, true, false, ◌==◌, ◌||◌, ◌&&◌, List, [], ◌∷◌, Some, refl, sym, ap, subst, ◌∙◌, ⊎_elim, eqb-true, eq-eqb}
 use Rattle.std.proofs.lemmas.Bool.{cases_Bool, both_ways, and_parts}
 use Rattle.std.proofs.lemmas.List.{length-map}
-use Rattle.ci_board.specs.declared.facts.Status.{Status}
-use Rattle.ci_machine.specs.declared.records.Attempt.{Attempt}
-use Rattle.ci_machine.specs.declared.records.BoardRow.{BoardRow}
-use Rattle.ci_machine.specs.declared.records.Job.{Job}
-use Rattle.ci_machine.specs.declared.records.Need.{Need}
-use Rattle.ci_machine.specs.declared.records.Pipeline.{Pipeline}
-use Rattle.ci_machine.specs.declared.change.Record.TheVariants as row
-use Rattle.ci_machine.specs.declared.change.RowChange.TheVariants.{Put}
-use Rattle.ci_machine.specs.State.{State, attempt_cmp}
-use Rattle.ci_machine.specs.Kept.{Kept, put_rows, written}
-use Rattle.ci_machine.specs.Statuses.{jobs_of, numbers_of, AreBoard}
-use Rattle.ci_machine.specs.Bodies.{status_of_jobs}
-use Rattle.ci_machine.specs.Leases.{is_live}
-use Rattle.ci_machine_steps.specs.Cancels.{is_lease_on}
-use Rattle.ci_machine_steps.specs.Step.{with_status, last_attempt}
-use Rattle.ci_machine.specs.Indexes.{unfinished_in, AreIndexes}
+use Rattle.ci_machine_steps.specs.Prelude.{Status, Attempt, BoardRow, Job, Need, Pipeline, Record, Put, State, attempt_cmp, Kept, put_rows, written, jobs_of, numbers_of, AreBoard}
+use Rattle.ci_machine_steps.specs.Prelude.{status_of_jobs, is_live, is_lease_on, with_status, last_attempt, unfinished_in, AreIndexes}
 use Rattle.ci_machine.proofs.Keyed.{Has, filter_has, has_map, has_put_other, put_has, one_at, different, unequal, has_from_contains}
 use Rattle.ci_machine_steps.proofs.Sound.{Sound}
 use Rattle.ci_machine_statuses.specs.Changes.{IsWithin, HasLive}
@@ -100,7 +85,7 @@ module _ (k : Kept) (p : Pipeline) (job : Job) (x : Attempt) (sound : Sound k.st
   pub end_indexed : (jobs : List Job) (needs : List Need) (attempts : List Attempt) (rows : List BoardRow) (v : Settled) (before after : Status) → AreIndexes k
       → AreRecords s k.board p.id jobs needs attempts rows → IsSettled s t k.board p.id v
       → before ≡ (with_status s k.board p).status → after ≡ status_of_jobs jobs v.facts.items v.rows.items
-      → AreIndexes (written (Put (row.Attempt x) ∷ []) v.changed.items (of_pipeline p (job ∷ []) attempts before after) k)
+      → AreIndexes (written (Put (Record.Attempt x) ∷ []) v.changed.items (of_pipeline p (job ∷ []) attempts before after) k)
   end_indexed jobs needs attempts rows v before after indexes records settled was is =
       let chosen_there : (j : Job) → Has j (job ∷ []) → Has j jobs
       = λ j h. ⊎_elim

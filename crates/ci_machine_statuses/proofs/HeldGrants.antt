@@ -1,36 +1,14 @@
 -- A grant: its group is held, and its pipeline isn't finished, as before.
-use Rattle.std.specs.Prelude.{◌≡◌, ◌⊎◌, ℕ, ◌<◌, true, ◌==◌, List, [], ◌∷◌, length, map, filter, Option, Some, None, option_map}
-use Rattle.std.proofs.Common.{refl, sym, ap, subst, ◌∙◌, inl, inr, ⊎_elim, arith, eqb-true, eq-eqb}
+use Rattle.std.proofs.Common.{◌≡◌, ◌⊎◌, ℕ, ◌<◌, true, ◌==◌, List, [], ◌∷◌, length, map, filter, Option, Some, None, option_map, refl, sym, ap, subst, ◌∙◌, inl, inr, ⊎_elim, arith}
+use Rattle.std.proofs.Common.{eqb-true, eq-eqb}
 use Rattle.std.proofs.lemmas.Bool.{cond_both, eqb-false}
 use Rattle.std.proofs.lemmas.List.{get_or-map, length-map}
-use Rattle.ci_values.specs.declared.attempts.AttemptState.TheVariants.{Live}
-use Rattle.ci_values.specs.Attempts.{is_live_state}
-use Rattle.ci_graph.specs.declared.part.Part.{Part}
-use Rattle.ci_board.specs.declared.facts.Facts.{Facts}
-use Rattle.ci_board.specs.declared.facts.Row.{Row}
-use Rattle.ci_board.specs.declared.facts.Status.{Status}
-use Rattle.ci_board.specs.declared.facts.Status.TheVariants as status
-use Rattle.ci_board.specs.Effects.{is_status}
-use Rattle.ci_board.specs.Rows.{row_at, no_row, statuses}
-use Rattle.ci_board.specs.PipelineStatus.{some_job, has_status, pipeline_status}
-use Rattle.ci_machine.specs.declared.records.Attempt.{Attempt}
-use Rattle.ci_machine.specs.declared.records.Holder.{Holder}
-use Rattle.ci_machine.specs.declared.records.Job.{Job}
-use Rattle.ci_machine.specs.declared.records.Pipeline.{Pipeline}
-use Rattle.ci_machine.specs.declared.records.BoardRow.{BoardRow}
-use Rattle.ci_machine.specs.declared.change.Record.TheVariants as row
-use Rattle.ci_machine.specs.declared.change.Counter.TheVariants as counter
-use Rattle.ci_machine.specs.declared.change.IndexChange.TheVariants.{Hold}
-use Rattle.ci_machine.specs.State.{State, applied, put, attempt_cmp}
-use Rattle.ci_machine.specs.Kept.{Kept, row_cmp, indexed_all, written}
-use Rattle.ci_machine_steps.specs.Plans.{numbered}
-use Rattle.ci_machine.specs.Statuses.{jobs_of, numbers_of, facts_of, rows_of, row_for, AreBoard}
-use Rattle.ci_machine.specs.Redundant.{is_unfinished}
-use Rattle.ci_machine.specs.Eligible.{resource_free}
-use Rattle.ci_machine.specs.Lookups.{job_at, queued, is_pending}
-use Rattle.ci_machine.specs.Holders.{group_held, held_by, held_of, holds_group}
-use Rattle.ci_machine.specs.Waiting.{groups_in}
-use Rattle.ci_machine.specs.Indexes.{is_open_in, AreIndexes}
+use Rattle.ci_machine_steps.specs.Prelude.{Live, is_live_state, Facts, Row, Status, is_status, no_row, statuses, some_job, has_status, pipeline_status, Attempt, Holder, Job}
+use Rattle.ci_machine_steps.specs.Prelude.{Pipeline, BoardRow, Record, Counter, Hold, State, applied, put, attempt_cmp, Kept, row_cmp, indexed_all, written, numbered, jobs_of}
+use Rattle.ci_machine_steps.specs.Prelude.{numbers_of, facts_of, rows_of, row_for, AreBoard, is_unfinished, resource_free, job_at, queued, is_pending, group_held, held_by, held_of}
+use Rattle.ci_machine_steps.specs.Prelude.{holds_group, groups_in, is_open_in, AreIndexes}
+use Rattle.ci_machine.specs.Prelude.{Part}
+use Rattle.ci_board.specs.Prelude.{row_at}
 use Rattle.ci_machine.proofs.Claims.{free_not_held}
 use Rattle.ci_machine.proofs.Keyed.{Has, find_has, filter_has, has_map, has_put, put_has, unequal}
 use Rattle.ci_machine_steps.proofs.Finished.{some_is, running_open}
@@ -47,13 +25,13 @@ use Rattle.ci_machine_statuses.proofs.HeldOpening.{number, same_status}
 -- ---- a pending or running job leaves its pipeline unfinished
 
 module _ (parts : List Part) (facts : List Facts) (a : ℕ → Status) where
-  pending_open : some_job (length parts) (has_status a status.Pending) ≡ true → is_unfinished (pipeline_status parts facts a) ≡ true
+  pending_open : some_job (length parts) (has_status a Status.Pending) ≡ true → is_unfinished (pipeline_status parts facts a) ≡ true
   pending_open e =
-      cond_both (some_job (length parts) (has_status a status.Running)) status.Running _ (λ x. is_unfinished x ≡ true)
+      cond_both (some_job (length parts) (has_status a Status.Running)) Status.Running _ (λ x. is_unfinished x ≡ true)
       (λ _. refl)
-      (λ _. rw e (cond_both _ status.Running status.Pending (λ x. is_unfinished x ≡ true) (λ _. refl) (λ _. refl)))
+      (λ _. rw e (cond_both _ Status.Running Status.Pending (λ x. is_unfinished x ≡ true) (λ _. refl) (λ _. refl)))
 
-open_at : (s : State) (board : List BoardRow) (q : Pipeline) (n : ℕ) → Has n (numbers_of s q.id) → (row_for board n).status ≡ status.Pending ⊎ ((row_for board n).status ≡ status.Running) → is_open_in s board q ≡ true
+open_at : (s : State) (board : List BoardRow) (q : Pipeline) (n : ℕ) → Has n (numbers_of s q.id) → (row_for board n).status ≡ Status.Pending ⊎ ((row_for board n).status ≡ Status.Running) → is_open_in s board q ≡ true
 open_at s board q n h way =
     let w = place_of_has n (numbers_of s q.id) h in
     let rows : List Row = rows_of s board q.id in
@@ -62,8 +40,8 @@ open_at s board q n h way =
     let inside : w.0 < length parts
     = subst (λ m. w.0 < m) (length-map (jobs_of s q.id) (λ (j : Job). j.id) ∙ sym (length-map (jobs_of s q.id) (λ (j : Job). j.options.part))) w.1.0 in
     ⊎_elim
-    (λ e. pending_open parts (facts_of s q.id) (statuses rows) (some_is (length parts) (has_status (statuses rows) status.Pending) w.0 inside (ap (is_status status.Pending) (its ∙ e))))
-    (λ e. running_open parts (facts_of s q.id) (statuses rows) (some_is (length parts) (has_status (statuses rows) status.Running) w.0 inside (ap (is_status status.Running) (its ∙ e))))
+    (λ e. pending_open parts (facts_of s q.id) (statuses rows) (some_is (length parts) (has_status (statuses rows) Status.Pending) w.0 inside (ap (is_status Status.Pending) (its ∙ e))))
+    (λ e. running_open parts (facts_of s q.id) (statuses rows) (some_is (length parts) (has_status (statuses rows) Status.Running) w.0 inside (ap (is_status Status.Running) (its ∙ e))))
     way
 
 hold_alone : (n project : ℕ) (group : Option (List ℕ)) (k : Kept)
@@ -77,7 +55,7 @@ module _ (k : Kept) (j : Job) (x : Attempt) (sound : Sound k.state) (are : AreBo
   s = k.state
 
   abbrev t : State
-  t = applied (numbered (row.Attempt x) counter.Attempt s.next.attempt) s
+  t = applied (numbered (Record.Attempt x) Counter.Attempt s.next.attempt) s
 
   abbrev after : List BoardRow
   after = put row_cmp (started_row k.board j.id) k.board
@@ -126,7 +104,7 @@ module _ (k : Kept) (j : Job) (x : Attempt) (sound : Sound k.state) (are : AreBo
       (λ e. let d = eqb-false j.pipeline q.id e in
       same_status s t k.board after q refl (facts_there s k.board j x sound are has pending at_next its_job live q.id d) (rows_there s k.board j x sound are has pending at_next its_job live q.id d))
 
-  pub granted : AreIndexes (written (numbered (row.Attempt x) counter.Attempt k.state.next.attempt) (started_row k.board j.id ∷ []) (holds_group x.id (queued k.state j)) k)
+  pub granted : AreIndexes (written (numbered (Record.Attempt x) Counter.Attempt k.state.next.attempt) (started_row k.board j.id ∷ []) (holds_group x.id (queued k.state j)) k)
   granted = subst AreIndexes (sym (hold_alone x.id (queued s j).project j.options.resource_group then)) (record {
     held = more_rows s t x.id (queued s j).project j.options.resource_group then (free_not_held (groups_in s k.board) j.pipeline (queued s j).project j.options.resource_group free) more indexes.held;
     unfinished = indexes.unfinished ∙ (λ i. map number (filter (λ q. sym (same q) i) s.pipelines));

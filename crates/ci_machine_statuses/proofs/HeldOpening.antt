@@ -1,26 +1,12 @@
 -- Which pipelines aren't finished where one of them changes.
-use Rattle.std.specs.Prelude.{◌≡◌, ◌⊎◌, ℕ, ◌+◌, Bool, true, false, ◌==◌, not, List, [], ◌∷◌, length, map, filter, option_to_list}
+use Rattle.std.proofs.Common.{◌≡◌, ◌⊎◌, ℕ, ◌+◌, Bool, true, false, ◌==◌, not, List, [], ◌∷◌, length, map, filter, option_to_list, refl, sym, ap, subst, ◌∙◌, inl, inr, ⊎_elim}
+use Rattle.std.proofs.Common.{arith, eqb-true, eq-eqb, ne_eqb}
 use Rattle.std.proofs.lemmas.List.{length-map}
-use Rattle.std.proofs.Common.{refl, sym, ap, subst, ◌∙◌, inl, inr, ⊎_elim, arith, eqb-true, eq-eqb, ne_eqb}
 use Rattle.std.proofs.lemmas.Bool.{cond_both, both_ways, eqb-false}
-use Rattle.ci_graph.specs.JobGraph.{JobGraph}
-use Rattle.ci_graph.specs.declared.part.Part.{Part}
-use Rattle.ci_board.specs.declared.facts.Facts.{Facts}
-use Rattle.ci_board.specs.declared.facts.Row.{Row}
-use Rattle.ci_board.specs.declared.facts.Status.{Status}
-use Rattle.ci_board.specs.Rows.{AreRows, statuses}
-use Rattle.ci_board.specs.PipelineStatus.{pipeline_status}
-use Rattle.ci_machine.specs.declared.records.Pipeline.{Pipeline}
-use Rattle.ci_machine.specs.declared.records.Job.{Job}
-use Rattle.ci_machine.specs.declared.records.BoardRow.{BoardRow}
-use Rattle.ci_machine.specs.declared.records.Unfinished.{Unfinished}
-use Rattle.ci_machine.specs.State.{State}
-use Rattle.ci_machine.specs.Kept.{Kept, put_rows, with_open, without_open, unfinished_cmp, indexed_all}
-use Rattle.ci_machine.specs.Statuses.{jobs_of, numbers_of, graph_of, facts_of, rows_of, AreBoard, AreRowsOf}
-use Rattle.ci_machine.specs.Bodies.{status_of_jobs}
-use Rattle.ci_machine.specs.Redundant.{is_unfinished}
-use Rattle.ci_machine_steps.specs.Step.{with_status}
-use Rattle.ci_machine.specs.Indexes.{is_open_in, unfinished_in}
+use Rattle.ci_machine.specs.Prelude.{JobGraph, Part}
+use Rattle.ci_machine_steps.specs.Prelude.{Facts, Row, Status, AreRows, statuses, pipeline_status, Pipeline, Job, BoardRow, Unfinished, State, Kept, put_rows, with_open}
+use Rattle.ci_machine_steps.specs.Prelude.{without_open, unfinished_cmp, indexed_all, jobs_of, numbers_of, graph_of, facts_of, rows_of, AreBoard, AreRowsOf, status_of_jobs}
+use Rattle.ci_machine_steps.specs.Prelude.{is_unfinished, with_status, is_open_in, unfinished_in}
 use Rattle.ci_machine.proofs.Keyed.{Has, Rising, rising_filter, rising_put, has_filter, filter_has, has_map, map_has, has_put, put_has, unequal, one_at}
 use Rattle.ci_machine_steps.proofs.Sound.{Sound}
 use Rattle.ci_machine_statuses.specs.Boards.{changed_rows}

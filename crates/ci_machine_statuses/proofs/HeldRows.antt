@@ -1,24 +1,17 @@
 -- The rows of held groups, where some are free or one more is held.
-use Rattle.std.specs.Prelude.{◌≡◌, ◌⊎◌, ℕ, Bool, true, false, ◌&&◌, ◌==◌, not, List, [], ◌∷◌, map, Contains, Option, Some, None}
+use Rattle.std.proofs.Common.{◌≡◌, ◌⊎◌, ℕ, Bool, true, false, ◌&&◌, ◌==◌, not, List, [], ◌∷◌, map, Contains, Option, Some, None, nat_cmp, is_eq, Ordering, Less, Equal, Greater}
+use Rattle.std.proofs.Common.{refl, sym, ap, subst, ◌∙◌, inl, inr, ⊎_elim, eqb-true, eq-eqb}
 use Rattle.std.specs.List.{list_any}
 use Rattle.std.specs.Str.{bytes_eq}
-use Rattle.std.specs.Ordering.{nat_cmp, is_eq, ordering_then}
-use Rattle.std.specs.declared.cmp.Ordering.{Ordering}
-use Rattle.std.specs.declared.cmp.Ordering.TheVariants.{Less, Equal, Greater}
+use Rattle.std.specs.Ordering.{ordering_then}
 use Rattle.std.specs.Cmp.{IsTotalOrder, Equal-is}
 use Rattle.std.specs.Cmp.Lexicographic.{slice_cmp}
 use Rattle.std.proofs.lemmas.Cmp.{nat_cmp_total, on_total, then_total, nat_list_cmp_total}
-use Rattle.std.proofs.Common.{refl, sym, ap, subst, ◌∙◌, inl, inr, ⊎_elim, eqb-true, eq-eqb}
 use Rattle.std.proofs.lemmas.Bool.{cases_Bool, both_ways, false≢true, and_parts}
 use Rattle.std.proofs.lemmas.Slice.Eq.{bytes_eq-Decides}
 use Rattle.std.proofs.lemmas.Map.Text.{is_eq-slice_cmp}
-use Rattle.ci_machine.specs.declared.records.Holder.{Holder}
-use Rattle.ci_machine.specs.declared.change.IndexChange.TheVariants.{Hold}
-use Rattle.ci_machine.specs.State.{State, put}
-use Rattle.ci_machine.specs.Kept.{Kept, indexed, indexed_all}
-use Rattle.ci_machine.specs.Eligible.{holds, is_free}
-use Rattle.ci_machine.specs.Groups.{held_claim}
-use Rattle.ci_machine.specs.Holders.{group_held, holders, holder_cmp, AreHolders, without_holder, freed}
+use Rattle.ci_machine_steps.specs.Prelude.{Holder, Hold, State, put, Kept, indexed, indexed_all, holds, is_free, held_claim, group_held, holders, holder_cmp, AreHolders}
+use Rattle.ci_machine_steps.specs.Prelude.{without_holder, freed}
 use Rattle.ci_machine.proofs.Claims.{free_held}
 use Rattle.ci_machine.proofs.Keyed.{Has, has_filter, filter_has, has_put, put_has, equal, same, has_from_all, All-from_has, has_from_contains, contains_from_has}
 use Rattle.ci_machine.proofs.Keyed.{not_true}

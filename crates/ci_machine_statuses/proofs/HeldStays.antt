@@ -1,18 +1,9 @@
 -- Changes that no status depends on.
-use Rattle.std.specs.Prelude.{◌≡◌, false, List, [], map, filter}
+use Rattle.std.proofs.Common.{◌≡◌, false, List, [], map, filter, refl, sym, ap, ◌∙◌}
 use Rattle.std.specs.List.{AllByRecursion}
-use Rattle.std.proofs.Common.{refl, sym, ap, ◌∙◌}
 use Rattle.std.proofs.lemmas.Bool.{false≢true}
-use Rattle.ci_values.specs.Attempts.{is_live_state}
-use Rattle.ci_graph.specs.JobGraph.{JobGraph}
-use Rattle.ci_machine.specs.declared.records.Pipeline.{Pipeline}
-use Rattle.ci_machine.specs.declared.change.RowChange.{RowChange}
-use Rattle.ci_machine.specs.State.{State, applied}
-use Rattle.ci_machine.specs.Kept.{Kept, written}
-use Rattle.ci_machine.specs.Statuses.{row_for}
-use Rattle.ci_machine.specs.Holders.{queued_at, held_by}
-use Rattle.ci_machine.specs.Indexes.{is_open_in, AreIndexes}
-use Rattle.ci_machine_steps.specs.Sound.{IsSound}
+use Rattle.ci_machine_steps.specs.Prelude.{is_live_state, Pipeline, RowChange, State, applied, Kept, written, row_for, queued_at, held_by, is_open_in, AreIndexes, IsSound}
+use Rattle.ci_machine.specs.Prelude.{JobGraph}
 use Rattle.ci_machine_steps.proofs.Sound.{Sound, sound}
 use Rattle.ci_machine_statuses.specs.Changes.{LeavesStatuses, HaveSameFacts}
 use Rattle.ci_machine_statuses.proofs.Stays.{IsLike, like, same_from_like}

@@ -1,19 +1,9 @@
 -- Which groups are held where leases end, and no other begins.
-use Rattle.std.specs.Prelude.{◌≡◌, ℕ, true, false, ◌==◌, Bool, List, filter, flat_map, Contains, Option, Some, None, option_map}
+use Rattle.std.proofs.Common.{◌≡◌, ℕ, true, false, ◌==◌, Bool, List, filter, flat_map, Contains, Option, Some, None, option_map, refl, sym, ap, subst, ◌∙◌, ⊎_elim, eqb-true}
 use Rattle.std.specs.List.{list_any}
-use Rattle.std.proofs.Common.{refl, sym, ap, subst, ◌∙◌, ⊎_elim, eqb-true}
 use Rattle.std.proofs.lemmas.Bool.{cases_Bool, both_ways, and_parts}
-use Rattle.ci_machine.specs.declared.records.Holder.{Holder}
-use Rattle.ci_machine.specs.declared.records.Pipeline.{Pipeline}
-use Rattle.ci_machine.specs.declared.records.Job.{Job}
-use Rattle.ci_machine.specs.declared.records.QueuedJob.{QueuedJob}
-use Rattle.ci_machine.specs.declared.records.Attempt.{Attempt}
-use Rattle.ci_machine.specs.State.{State}
-use Rattle.ci_machine.specs.Leases.{is_live}
-use Rattle.ci_machine.specs.Lookups.{job_at, pipeline_at, project_or_none, queued, live_attempts}
-use Rattle.ci_machine.specs.Eligible.{holds}
-use Rattle.ci_machine_steps.specs.Cancels.{is_lease_on}
-use Rattle.ci_machine.specs.Holders.{queued_at, group_held, held_by, held_of, holders, holder_cmp, AreHolders}
+use Rattle.ci_machine_steps.specs.Prelude.{Holder, Pipeline, Job, QueuedJob, Attempt, State, is_live, job_at, pipeline_at, project_or_none, queued, live_attempts, holds}
+use Rattle.ci_machine_steps.specs.Prelude.{is_lease_on, queued_at, group_held, held_by, held_of, holders, holder_cmp, AreHolders}
 use Rattle.ci_machine.proofs.Keyed.{Has, Rising, has_filter, filter_has, filter_none, has_find, find_has, one_at, has_from_all, All-from_has, has_from_contains, contains_from_has}
 use Rattle.ci_machine_steps.proofs.Variables.{Ordered}
 use Rattle.ci_machine_steps.proofs.Sound.{Sound}

@@ -1,15 +1,8 @@
 -- Where one pipeline's facts change and the rows that differ are put, the rows are those of the state again.
-use Rattle.std.specs.Prelude.{◌≡◌, ℕ, ◌==◌, List, length, map}
-use Rattle.std.proofs.Common.{refl, sym, ap, subst, ◌∙◌, eqb-true}
+use Rattle.std.proofs.Common.{◌≡◌, ℕ, ◌==◌, List, length, map, refl, sym, ap, subst, ◌∙◌, eqb-true}
 use Rattle.std.proofs.lemmas.Bool.{cond_both, eqb-false}
 use Rattle.std.proofs.lemmas.List.{length-map}
-use Rattle.ci_board.specs.declared.facts.Row.{Row}
-use Rattle.ci_board.specs.Rows.{AreRows}
-use Rattle.ci_machine.specs.declared.records.Job.{Job}
-use Rattle.ci_machine.specs.declared.records.BoardRow.{BoardRow}
-use Rattle.ci_machine.specs.State.{State}
-use Rattle.ci_machine.specs.Kept.{put_rows}
-use Rattle.ci_machine.specs.Statuses.{jobs_of, numbers_of, graph_of, facts_of, rows_of, row_for, AreBoard}
+use Rattle.ci_machine_steps.specs.Prelude.{Row, AreRows, Job, BoardRow, State, put_rows, jobs_of, numbers_of, graph_of, facts_of, rows_of, row_for, AreBoard}
 use Rattle.ci_machine.proofs.Keyed.{Has, Rising, rising_filter, has_map, map_has}
 use Rattle.ci_machine_steps.proofs.Sound.{Sound, sound}
 use Rattle.ci_machine_statuses.specs.Boards.{changed_rows}

@@ -21,7 +21,7 @@ pub mod Stays
 pub mod Grants
 pub mod Made
 pub mod Creations
-pub mod Pages
+pub mod PendingRows
 pub mod HeldLists
 pub mod HeldRows
 pub mod Holding

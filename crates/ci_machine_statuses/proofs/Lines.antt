@@ -1,18 +1,9 @@
 -- Of which other jobs the jobs of a pipeline wait: no job goes before those of its own pipeline.
-use Rattle.std.specs.Prelude.{◌≡◌, ℕ, Bool, false, ◌&&◌, List, [], ◌∷◌, ◌++◌, filter, flat_map, Option, Some, None}
-use Rattle.std.proofs.Common.{refl, sym, ap, ◌∙◌, inl, inr, arith}
+use Rattle.std.proofs.Common.{◌≡◌, ℕ, Bool, false, ◌&&◌, List, [], ◌∷◌, ◌++◌, filter, flat_map, Option, Some, None, refl, sym, ap, ◌∙◌, inl, inr, arith}
 use Rattle.std.proofs.lemmas.Bool.{cond-false, le-ltb}
 use Rattle.std.proofs.lemmas.List.Elements.{filter-append}
-use Rattle.ci_board.specs.declared.facts.Status.{Status}
-use Rattle.ci_board.specs.declared.facts.Status.TheVariants as status
-use Rattle.ci_machine.specs.declared.records.GroupMode.{GroupMode}
-use Rattle.ci_machine.specs.declared.records.GroupOrder.{GroupOrder}
-use Rattle.ci_machine.specs.declared.records.GroupOrder.TheVariants.{OldestFirst, NewestReadyFirst}
-use Rattle.ci_machine.specs.declared.records.Job.{Job}
-use Rattle.ci_machine.specs.declared.records.QueuedJob.{QueuedJob}
-use Rattle.ci_machine.specs.declared.records.WaitingJob.{WaitingJob}
-use Rattle.ci_machine.specs.Groups.{order_of, goes_before_in, is_first}
-use Rattle.ci_machine.specs.Waiting.{waits_for, waits_as}
+use Rattle.ci_machine_steps.specs.Prelude.{Status, GroupMode, GroupOrder, OldestFirst, NewestReadyFirst, Job, QueuedJob, WaitingJob, order_of, goes_before_in, is_first, waits_for}
+use Rattle.ci_machine_steps.specs.Prelude.{waits_as}
 use Rattle.ci_machine.proofs.Keyed.{Has}
 
 own_in : (o : Option GroupOrder) (n : ℕ) (w : WaitingJob) → w.pipeline ≡ n → goes_before_in o n w ≡ false
@@ -28,14 +19,14 @@ own_for modes n project pipeline pending (Some group) e =
 
 -- a job of the pipeline itself goes before none of it
 pub own_first : (modes : List GroupMode) (n : ℕ) (q : QueuedJob) (its : Status) → q.job.pipeline ≡ n → filter (is_first modes n) (waits_as q its) ≡ []
-own_first modes n q status.Created e = own_for modes n q.project q.job.pipeline false q.job.options.resource_group e
-own_first modes n q status.Pending e = own_for modes n q.project q.job.pipeline _ q.job.options.resource_group e
-own_first modes n q status.Running e = refl
-own_first modes n q status.Success e = refl
-own_first modes n q status.Failed e = refl
-own_first modes n q status.Canceled e = refl
-own_first modes n q status.Skipped e = refl
-own_first modes n q status.Manual e = refl
+own_first modes n q Status.Created e = own_for modes n q.project q.job.pipeline false q.job.options.resource_group e
+own_first modes n q Status.Pending e = own_for modes n q.project q.job.pipeline _ q.job.options.resource_group e
+own_first modes n q Status.Running e = refl
+own_first modes n q Status.Success e = refl
+own_first modes n q Status.Failed e = refl
+own_first modes n q Status.Canceled e = refl
+own_first modes n q Status.Skipped e = refl
+own_first modes n q Status.Manual e = refl
 
 -- the same ones pass, where the same of each job do
 pub passing_alike : (test : WaitingJob → Bool) (f g : Job → List WaitingJob) (js : List Job) → ((j : Job) → Has j js → filter test (g j) ≡ filter test (f j)) → filter test (flat_map g js) ≡ filter test (flat_map f js)

@@ -1,27 +1,16 @@
 -- What is made of the records of a pipeline is what the state has of it.
-use Rattle.std.specs.Prelude.{◌≡◌, ℕ, ◌-◌, ◌<◌, ◌≤◌, true, ◌==◌, List, length, map, All, slice_index_or, Result, Ok, Err, IfOk, IfErr, OnOk}
-use Rattle.std.specs.Ordering.{nat_cmp}
+use Rattle.std.proofs.Common.{◌≡◌, ℕ, ◌-◌, ◌<◌, ◌≤◌, true, ◌==◌, List, length, map, All, slice_index_or, Result, Ok, Err, IfOk, IfErr, OnOk, nat_cmp, sym, ap, subst, ◌∙◌, arith}
+use Rattle.std.proofs.Common.{eqb-true}
 use Rattle.std.specs.List.Sorted.{IsStrictlySortedBy}
-use Rattle.std.proofs.Common.{sym, ap, subst, ◌∙◌, arith, eqb-true}
 use Rattle.std.proofs.lemmas.Bool.{and_from, le-leb}
 use Rattle.std.proofs.lemmas.List.{get_or-map, length-map}
-use Rattle.ci_graph.specs.Lists.{is_among}
-use Rattle.ci_graph.specs.Pairs.{IsAcyclic}
-use Rattle.ci_graph.specs.JobGraph.{JobGraph}
-use Rattle.ci_board.specs.Rows.{BoardState}
-use Rattle.ci_machine.specs.declared.records.Job.{Job}
-use Rattle.ci_machine.specs.declared.records.Need.{Need}
-use Rattle.ci_machine.specs.declared.records.Attempt.{Attempt}
-use Rattle.ci_machine.specs.declared.records.BoardRow.{BoardRow}
-use Rattle.ci_machine.specs.State.{State}
-use Rattle.ci_machine.specs.Ranges.{is_within}
-use Rattle.ci_machine.specs.Statuses.{pair_of, jobs_of, numbers_of, graph_of, facts_in, facts_of, rows_of, row_for, row_or_none, AreBoard}
+use Rattle.ci_machine.specs.Prelude.{is_among, IsAcyclic, JobGraph}
+use Rattle.ci_machine_steps.specs.Prelude.{BoardState, Job, Need, Attempt, BoardRow, State, is_within, pair_of, jobs_of, numbers_of, graph_of, facts_in, facts_of, rows_of, row_for}
+use Rattle.ci_machine_steps.specs.Prelude.{row_or_none, AreBoard, IsSound, pairs_among, predecessors_by}
 use Rattle.ci_machine.proofs.Keyed.{Has, Rising, rising_filter, map_has, has_from_all, All-from_has, filter_has, has_filter}
 use Rattle.ci_machine.proofs.Filters.{filter_implied, find_implied}
-use Rattle.ci_machine_steps.specs.Sound.{IsSound}
 use Rattle.ci_machine_steps.proofs.Sound.{Sound, ascend_from_rising, sound as of_sound}
 use Rattle.ci_machine_statuses.specs.Lookups.{AreRecords, AreJobsWithNeeds, tally_of, facts_by}
-use Rattle.ci_machine.specs.Statuses.{pairs_among, predecessors_by}
 use Rattle.ci_machine_statuses.specs.Boards.{IsBoardOf, IsGraphOf, IsItsGraph, FitTogether}
 use Rattle.ci_machine_statuses.specs.declared.fault.StatusFault.{StatusFault}
 use Rattle.ci_machine_statuses.specs.declared.fault.StatusFault.TheVariants.{Broken}

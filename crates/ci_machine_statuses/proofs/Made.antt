@@ -1,26 +1,16 @@
 -- A pipeline is made: its rows come behind all others.
-use Rattle.std.specs.Prelude.{◌≡◌, ℕ, ◌+◌, ◌-◌, ◌<◌, ◌≤◌, false, ◌==◌, List, [], ◌∷◌, ◌++◌, length, map, filter, replicate, Contains, None}
-use Rattle.std.proofs.Common.{refl, sym, ap, subst, ◌∙◌, inl, inr, ⊎_elim, arith, eqb-true, eq-eqb, ne_eqb}
+use Rattle.std.proofs.Common.{◌≡◌, ℕ, ◌+◌, ◌-◌, ◌<◌, ◌≤◌, false, ◌==◌, List, [], ◌∷◌, ◌++◌, length, map, filter, replicate, Contains, None, refl, sym, ap, subst, ◌∙◌, inl, inr}
+use Rattle.std.proofs.Common.{⊎_elim, arith, eqb-true, eq-eqb, ne_eqb}
 use Rattle.std.proofs.lemmas.Bool.{cond_both, eqb-false, cases_Bool}
 use Rattle.std.proofs.lemmas.List.{append-nil, map-append}
 use Rattle.std.proofs.lemmas.List.Elements.{filter-append}
-use Rattle.ci_graph.specs.Lists.{is_among}
-use Rattle.ci_graph.specs.JobGraph.{JobGraph}
-use Rattle.ci_board.specs.declared.facts.Facts.{Facts}
-use Rattle.ci_board.specs.declared.facts.Row.{Row}
-use Rattle.ci_board.specs.Rows.{AreRows, BoardState, no_facts}
+use Rattle.ci_machine.specs.Prelude.{is_among, JobGraph}
+use Rattle.ci_machine_steps.specs.Prelude.{Facts, Row, AreRows, BoardState, no_facts, Job, Need, Attempt, BoardRow, State, put, row_cmp, put_rows, pair_of, jobs_of, numbers_of}
+use Rattle.ci_machine_steps.specs.Prelude.{pairs_of, graph_of, attempts_of, facts_in, facts_of, rows_of, row_for, AreBoard, pairs_among, predecessors_by}
 use Rattle.ci_board.proofs.Assignments.{same_graph}
-use Rattle.ci_machine.specs.declared.records.Job.{Job}
-use Rattle.ci_machine.specs.declared.records.Need.{Need}
-use Rattle.ci_machine.specs.declared.records.Attempt.{Attempt}
-use Rattle.ci_machine.specs.declared.records.BoardRow.{BoardRow}
-use Rattle.ci_machine.specs.State.{State, put}
-use Rattle.ci_machine.specs.Kept.{row_cmp, put_rows}
-use Rattle.ci_machine.specs.Statuses.{pair_of, jobs_of, numbers_of, pairs_of, graph_of, attempts_of, facts_in, facts_of, rows_of, row_for, AreBoard}
 use Rattle.ci_machine.proofs.Keyed.{Has, Rising, rising_from, filter_none, map_has, has_map, has_from_all, named_contains}
 use Rattle.ci_machine.proofs.Filters.{filter_all}
 use Rattle.ci_machine_steps.proofs.Sound.{Sound, rising_from_ascend}
-use Rattle.ci_machine.specs.Statuses.{pairs_among, predecessors_by}
 use Rattle.ci_machine_statuses.specs.Changes.{IsMade}
 use Rattle.ci_machine_statuses.proofs.Puts.{cons_same, map_same, row_other}
 use Rattle.ci_machine_statuses.proofs.RowPuts.{rises_like, puts_behind, its_row}

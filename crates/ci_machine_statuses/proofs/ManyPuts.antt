@@ -1,10 +1,9 @@
 -- Many records of a list put in their own places.
-use Rattle.std.specs.Prelude.{◌≡◌, ℕ, ◌+◌, ◌<◌, ◌≤◌, false, cond, ◌||◌, ◌==◌, List, [], ◌∷◌, map, if◌then◌else◌}
-use Rattle.std.proofs.Common.{refl, sym, ap, subst, ◌∙◌, inl, inr, ⊎_elim, arith, eqb-true, eq-eqb, ne_eqb}
+use Rattle.std.proofs.Common.{◌≡◌, ℕ, ◌+◌, ◌<◌, ◌≤◌, false, cond, ◌||◌, ◌==◌, List, [], ◌∷◌, map, if◌then◌else◌, refl, sym, ap, subst, ◌∙◌, inl, inr, ⊎_elim, arith, eqb-true}
+use Rattle.std.proofs.Common.{eq-eqb, ne_eqb, nat_cmp}
 use Rattle.std.proofs.lemmas.Bool.{cond_both, cond-true, cond-false, eqb-false}
-use Rattle.std.specs.Ordering.{nat_cmp}
-use Rattle.ci_graph.specs.Lists.{is_among}
-use Rattle.ci_machine.specs.State.{put}
+use Rattle.ci_machine.specs.Prelude.{is_among}
+use Rattle.ci_machine_steps.specs.Prelude.{put}
 use Rattle.ci_machine.proofs.Keyed.{Has, Rising, rising_from, one_at}
 use Rattle.ci_machine_steps.proofs.Behind.{put_all}
 use Rattle.ci_machine_statuses.proofs.Puts.{map_same, map_id, swap, put_replace}

@@ -1,30 +1,16 @@
 -- A finished pipeline goes: so do the rows of its jobs, and all else beside the state is right as it is.
-use Rattle.std.specs.Prelude.{◌≡◌, ℕ, Bool, true, false, ◌==◌, not, List, [], ◌∷◌, length, map, filter, Option, Some, None, option_map, ◌-◌}
+use Rattle.std.proofs.Common.{◌≡◌, ℕ, Bool, true, false, ◌==◌, not, List, [], ◌∷◌, length, map, filter, Option, Some, None, option_map, ◌-◌, refl, sym, ap, subst, ◌∙◌, arith}
+use Rattle.std.proofs.Common.{eqb-true, ne_eqb}
 use Rattle.std.specs.List.{last_or}
-use Rattle.std.proofs.Common.{refl, sym, ap, subst, ◌∙◌, arith, eqb-true, ne_eqb}
 use Rattle.std.proofs.lemmas.Bool.{cond_both, cond-true, cond-false, both_ways, eqb-false, false≢true}
-use Rattle.ci_graph.specs.Lists.{is_among}
-use Rattle.ci_graph.specs.JobGraph.{JobGraph}
-use Rattle.ci_board.specs.declared.facts.Facts.{Facts}
-use Rattle.ci_board.specs.declared.facts.Row.{Row}
-use Rattle.ci_board.specs.Rows.{AreRows}
-use Rattle.ci_machine.specs.declared.records.Attempt.{Attempt}
-use Rattle.ci_machine.specs.declared.records.BoardRow.{BoardRow}
-use Rattle.ci_machine.specs.declared.records.Job.{Job}
-use Rattle.ci_machine.specs.declared.records.Need.{Need}
-use Rattle.ci_machine.specs.declared.records.Pipeline.{Pipeline}
-use Rattle.ci_machine.specs.declared.records.QueuedJob.{QueuedJob}
-use Rattle.ci_machine.specs.State.{State, without_all}
-use Rattle.ci_machine.specs.Statuses.{jobs_of, numbers_of, graph_by, graph_of, pair_of, pairs_among, predecessors_by, facts_in, facts_of, row_for, row_or_none, rows_of, AreBoard}
-use Rattle.ci_machine.specs.Kept.{Kept, cleared, written}
-use Rattle.ci_machine.specs.Leases.{is_live}
-use Rattle.ci_machine.specs.Lookups.{job_at, pipeline_at, project_or_none, queued}
-use Rattle.ci_machine.specs.Holders.{held_by}
-use Rattle.ci_machine.specs.Indexes.{is_open_in, unfinished_in, AreIndexes}
+use Rattle.ci_machine.specs.Prelude.{is_among, JobGraph}
+use Rattle.ci_machine_steps.specs.Prelude.{Facts, Row, AreRows, Attempt, BoardRow, Job, Need, Pipeline, QueuedJob, State, without_all, jobs_of, numbers_of, graph_by, graph_of}
+use Rattle.ci_machine_steps.specs.Prelude.{pair_of, pairs_among, predecessors_by, facts_in, facts_of, row_for, row_or_none, rows_of, AreBoard, Kept, cleared, written, is_live}
+use Rattle.ci_machine_steps.specs.Prelude.{job_at, pipeline_at, project_or_none, queued, held_by, is_open_in, unfinished_in, AreIndexes, is_job_among, pipeline_goes}
+use Rattle.ci_machine_steps.specs.Prelude.{without_pipeline}
 use Rattle.ci_machine.proofs.Keyed.{Has, one_at, has_filter, filter_same, has_find, map_has, not_true}
 use Rattle.ci_machine.proofs.Tests.{any_mapped}
 use Rattle.ci_machine.proofs.Filters.{filter_implied, find_implied, all_gone}
-use Rattle.ci_machine_steps.specs.Prunes.{is_job_among, pipeline_goes, without_pipeline}
 use Rattle.ci_machine_steps.proofs.Pruned.{among_its, pruned_state, jobs_left, no_jobs, attempts_left, attempt_was, attempt_left}
 use Rattle.ci_machine_steps.proofs.Finished.{not_its, job_stands}
 use Rattle.ci_machine_steps.proofs.Sound.{Sound}

@@ -1,13 +1,8 @@
 -- What a put makes of a list of records in the order of their numbers.
-use Rattle.std.specs.Prelude.{◌≡◌, ℕ, ◌+◌, ◌<◌, ◌≤◌, false, cond, not, ◌==◌, List, [], ◌∷◌, ◌++◌, map, find, if◌then◌else◌, Some, None}
-use Rattle.std.proofs.Common.{refl, sym, ap, ◌∙◌, inl, inr, ⊎_elim, arith, eq-eqb, ne_eqb}
+use Rattle.std.proofs.Common.{◌≡◌, ℕ, ◌+◌, ◌<◌, ◌≤◌, false, cond, not, ◌==◌, List, [], ◌∷◌, ◌++◌, map, find, if◌then◌else◌, Some, None, refl, sym, ap, ◌∙◌, inl, inr, ⊎_elim, arith}
+use Rattle.std.proofs.Common.{eq-eqb, ne_eqb, nat_cmp, is_eq, is_lt, Ordering}
 use Rattle.std.proofs.lemmas.Bool.{cond_both, cond-true, cond-false, cases_Bool, false≢true}
-use Rattle.std.specs.Ordering.{nat_cmp, is_eq, is_lt}
-use Rattle.std.specs.declared.cmp.Ordering.{Ordering}
-use Rattle.ci_machine.specs.declared.records.BoardRow.{BoardRow}
-use Rattle.ci_machine.specs.State.{placed, others, put}
-use Rattle.ci_machine.specs.Kept.{row_cmp}
-use Rattle.ci_machine.specs.Statuses.{row_for, row_or_none}
+use Rattle.ci_machine_steps.specs.Prelude.{BoardRow, placed, others, put, row_cmp, row_for, row_or_none}
 use Rattle.ci_machine.proofs.Keyed.{Has, Rising, rising_from, same, different, unequal, equal, less, not_less, has_filter}
 
 pub cons_same : {A : Type 0} {x y : A} {xs ys : List A} → x ≡ y → xs ≡ ys → x ∷ xs ≡ y ∷ ys

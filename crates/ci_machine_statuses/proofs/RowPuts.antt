@@ -1,17 +1,12 @@
 -- The rows of one pipeline put where others stood.
-use Rattle.std.specs.Prelude.{◌≡◌, ◌⊎◌, ℕ, suc, ◌+◌, ◌<◌, ◌≤◌, Bool, true, false, cond, ◌==◌, List, [], ◌∷◌, ◌++◌, length, map, All, if◌then◌else◌}
-use Rattle.std.proofs.Common.{refl, sym, ap, subst, ◌∙◌, inl, inr, ⊎_elim, arith, eqb-true}
+use Rattle.std.proofs.Common.{◌≡◌, ◌⊎◌, ℕ, suc, ◌+◌, ◌<◌, ◌≤◌, Bool, true, false, cond, ◌==◌, List, [], ◌∷◌, ◌++◌, length, map, All, if◌then◌else◌, refl, sym, ap, subst, ◌∙◌, inl}
+use Rattle.std.proofs.Common.{inr, ⊎_elim, arith, eqb-true}
 use Rattle.std.proofs.lemmas.Bool.{cond_both}
 use Rattle.std.specs.List.{AllByRecursion}
 use Rattle.std.proofs.lemmas.List.{append_assoc}
 use Rattle.std.proofs.lemmas.List.Elements.{All-from_recursion}
-use Rattle.ci_board.specs.declared.facts.Row.{Row}
-use Rattle.ci_board.specs.Rows.{same_row, differing, no_row}
+use Rattle.ci_machine_steps.specs.Prelude.{Row, same_row, differing, no_row, BoardRow, put, row_cmp, put_rows, row_for, row_or_none}
 use Rattle.ci_board.proofs.Exact.{row_equal}
-use Rattle.ci_machine.specs.declared.records.BoardRow.{BoardRow}
-use Rattle.ci_machine.specs.State.{put}
-use Rattle.ci_machine.specs.Kept.{row_cmp, put_rows}
-use Rattle.ci_machine.specs.Statuses.{row_for, row_or_none}
 use Rattle.ci_machine.proofs.Keyed.{Has, Rising, rising_from, find_has, map_has}
 use Rattle.ci_machine_statuses.specs.Boards.{board_row, changed_rows}
 use Rattle.ci_machine_statuses.proofs.Puts.{cons_same, map_same, swap, put_replace, put_last, row_put, row_other}

@@ -1,10 +1,7 @@
 -- A board after its facts changed.
-use Rattle.std.specs.Prelude.{◌≡◌, List, Result, Ok, Err, OnOk}
-use Rattle.std.proofs.Common.{sym, ap}
-use Rattle.ci_graph.specs.JobGraph.{JobGraph}
-use Rattle.ci_board.specs.declared.facts.Facts.{Facts}
-use Rattle.ci_board.specs.declared.facts.Row.{Row}
-use Rattle.ci_board.specs.Rows.{AreRows}
+use Rattle.std.proofs.Common.{◌≡◌, List, Result, Ok, Err, OnOk, sym, ap}
+use Rattle.ci_machine.specs.Prelude.{JobGraph}
+use Rattle.ci_machine_steps.specs.Prelude.{Facts, Row, AreRows}
 use Rattle.ci_board.proofs.Assignments.{rows_moved}
 
 pub right_before : (g h : JobGraph) (facts fresh : List Facts) (rows : List Row) → h ≡ record g { meter = h.meter } → fresh ≡ facts → AreRows h fresh rows → AreRows g facts rows

@@ -1,21 +1,9 @@
 -- Changes that no status depends on.
-use Rattle.std.specs.Prelude.{◌≡◌, ℕ, ◌==◌, List, [], ◌∷◌, map, filter}
+use Rattle.std.proofs.Common.{◌≡◌, ℕ, ◌==◌, List, [], ◌∷◌, map, filter, nat_cmp, is_lt, refl, sym, ap, ◌∙◌, eqb-true, inl, inr, ⊎_elim, arith}
 use Rattle.std.specs.List.{AllByRecursion}
-use Rattle.std.specs.Ordering.{nat_cmp, is_lt}
-use Rattle.std.proofs.Common.{refl, sym, ap, ◌∙◌, eqb-true, inl, inr, ⊎_elim, arith}
 use Rattle.std.proofs.lemmas.Bool.{cond_both, eqb-false}
-use Rattle.ci_machine.specs.declared.records.Job.{Job}
-use Rattle.ci_machine.specs.declared.records.Attempt.{Attempt}
-use Rattle.ci_machine.specs.declared.records.BoardRow.{BoardRow}
-use Rattle.ci_machine.specs.declared.change.Record.{Record}
-use Rattle.ci_machine.specs.declared.change.Record.TheVariants as row
-use Rattle.ci_machine.specs.declared.change.Key.{Key}
-use Rattle.ci_machine.specs.declared.change.Key.TheVariants as key
-use Rattle.ci_machine.specs.declared.change.RowChange.{RowChange}
-use Rattle.ci_machine.specs.declared.change.RowChange.TheVariants.{Put, Append, Remove}
-use Rattle.ci_machine.specs.State.{State, attempt_cmp, placed, others, put, with_record, without_record, changed, applied}
-use Rattle.ci_machine.specs.Statuses.{jobs_of, graph_of, facts_in, AreBoard}
-use Rattle.ci_machine_steps.specs.Sound.{IsSound}
+use Rattle.ci_machine_steps.specs.Prelude.{Job, Attempt, BoardRow, Record, Key, RowChange, Put, Append, Remove, State, attempt_cmp, placed, others, put, with_record}
+use Rattle.ci_machine_steps.specs.Prelude.{without_record, changed, applied, jobs_of, graph_of, facts_in, AreBoard, IsSound}
 use Rattle.ci_machine.proofs.Keyed.{Has, Rising, rising_put, has_put, has_from_contains, put_has, one_at, unequal}
 use Rattle.ci_machine_steps.proofs.Sound.{Sound, sound}
 use Rattle.ci_machine_statuses.specs.Changes.{HaveSameFacts, IsNoStatus, IsNoStatusKey, LeavesStatuses}
@@ -67,30 +55,30 @@ module _ (s : State) (ascend : Rising (λ a. a.id) 0 s.attempts) where
       }
 
   record_put : (t : State) (r : Record) → IsNoStatus s r → IsLike s t → IsLike s (with_record r t)
-  record_put t (row.Project p) n k = record { pipelines = k.pipelines; jobs = k.jobs; needs = k.needs; rise = k.rise; attempts = k.attempts; before = k.before; facts = k.facts }
-  record_put t (row.Variable v) n k = record { pipelines = k.pipelines; jobs = k.jobs; needs = k.needs; rise = k.rise; attempts = k.attempts; before = k.before; facts = k.facts }
-  record_put t (row.Runner r) n k = record { pipelines = k.pipelines; jobs = k.jobs; needs = k.needs; rise = k.rise; attempts = k.attempts; before = k.before; facts = k.facts }
-  record_put t (row.Pipeline p) n k = absurd n
-  record_put t (row.Job j) n k = absurd n
-  record_put t (row.JobVariable v) n k = record { pipelines = k.pipelines; jobs = k.jobs; needs = k.needs; rise = k.rise; attempts = k.attempts; before = k.before; facts = k.facts }
-  record_put t (row.Need w) n k = absurd n
-  record_put t (row.Attempt a) n k = attempt_put t a n.0 (has_from_contains n.0 s.attempts n.1) n.2 n.3 n.4 k
-  record_put t (row.Mode m) n k = record { pipelines = k.pipelines; jobs = k.jobs; needs = k.needs; rise = k.rise; attempts = k.attempts; before = k.before; facts = k.facts }
-  record_put t (row.Next counter m) n k = record { pipelines = k.pipelines; jobs = k.jobs; needs = k.needs; rise = k.rise; attempts = k.attempts; before = k.before; facts = k.facts }
+  record_put t (Record.Project p) n k = record { pipelines = k.pipelines; jobs = k.jobs; needs = k.needs; rise = k.rise; attempts = k.attempts; before = k.before; facts = k.facts }
+  record_put t (Record.Variable v) n k = record { pipelines = k.pipelines; jobs = k.jobs; needs = k.needs; rise = k.rise; attempts = k.attempts; before = k.before; facts = k.facts }
+  record_put t (Record.Runner r) n k = record { pipelines = k.pipelines; jobs = k.jobs; needs = k.needs; rise = k.rise; attempts = k.attempts; before = k.before; facts = k.facts }
+  record_put t (Record.Pipeline p) n k = absurd n
+  record_put t (Record.Job j) n k = absurd n
+  record_put t (Record.JobVariable v) n k = record { pipelines = k.pipelines; jobs = k.jobs; needs = k.needs; rise = k.rise; attempts = k.attempts; before = k.before; facts = k.facts }
+  record_put t (Record.Need w) n k = absurd n
+  record_put t (Record.Attempt a) n k = attempt_put t a n.0 (has_from_contains n.0 s.attempts n.1) n.2 n.3 n.4 k
+  record_put t (Record.Mode m) n k = record { pipelines = k.pipelines; jobs = k.jobs; needs = k.needs; rise = k.rise; attempts = k.attempts; before = k.before; facts = k.facts }
+  record_put t (Record.Next counter m) n k = record { pipelines = k.pipelines; jobs = k.jobs; needs = k.needs; rise = k.rise; attempts = k.attempts; before = k.before; facts = k.facts }
 
   record_gone : (t : State) (x : Key) → IsNoStatusKey x → IsLike s t → IsLike s (without_record x t)
-  record_gone t (key.Variable n name) u k = record { pipelines = k.pipelines; jobs = k.jobs; needs = k.needs; rise = k.rise; attempts = k.attempts; before = k.before; facts = k.facts }
-  record_gone t (key.Mode n name) u k = record { pipelines = k.pipelines; jobs = k.jobs; needs = k.needs; rise = k.rise; attempts = k.attempts; before = k.before; facts = k.facts }
-  record_gone t (key.Project n) u k = absurd u
-  record_gone t (key.Runner n) u k = absurd u
-  record_gone t (key.Pipeline n) u k = absurd u
-  record_gone t (key.Job n) u k = absurd u
-  record_gone t (key.JobVariable n name) u k = absurd u
-  record_gone t (key.JobVariables n) u k = absurd u
-  record_gone t (key.Need n pred) u k = absurd u
-  record_gone t (key.Needs n) u k = absurd u
-  record_gone t (key.Attempt n) u k = absurd u
-  record_gone t (key.Trace n) u k = absurd u
+  record_gone t (Key.Variable n name) u k = record { pipelines = k.pipelines; jobs = k.jobs; needs = k.needs; rise = k.rise; attempts = k.attempts; before = k.before; facts = k.facts }
+  record_gone t (Key.Mode n name) u k = record { pipelines = k.pipelines; jobs = k.jobs; needs = k.needs; rise = k.rise; attempts = k.attempts; before = k.before; facts = k.facts }
+  record_gone t (Key.Project n) u k = absurd u
+  record_gone t (Key.Runner n) u k = absurd u
+  record_gone t (Key.Pipeline n) u k = absurd u
+  record_gone t (Key.Job n) u k = absurd u
+  record_gone t (Key.JobVariable n name) u k = absurd u
+  record_gone t (Key.JobVariables n) u k = absurd u
+  record_gone t (Key.Need n pred) u k = absurd u
+  record_gone t (Key.Needs n) u k = absurd u
+  record_gone t (Key.Attempt n) u k = absurd u
+  record_gone t (Key.Trace n) u k = absurd u
 
   one_change : (t : State) (c : RowChange) → LeavesStatuses s c → IsLike s t → IsLike s (changed c t)
   one_change t (Put r) n k = record_put t r n k

@@ -1,15 +1,12 @@
 -- One attempt more.
-use Rattle.std.specs.Prelude.{◌≡◌, ℕ, zero, suc, ◌+◌, ◌<◌, ◌≤◌, ◌==◌, List, [], ◌∷◌, ◌++◌, length, map, filter, Some, None, option_map, replicate, slice_index_or, slice_set, take}
+use Rattle.std.proofs.Common.{◌≡◌, ℕ, zero, suc, ◌+◌, ◌<◌, ◌≤◌, ◌==◌, List, [], ◌∷◌, ◌++◌, length, map, filter, Some, None, option_map, replicate, slice_index_or, slice_set, take}
+use Rattle.std.proofs.Common.{nat_cmp, refl, sym, ap, ◌∙◌, arith, eq-eqb, ne_eqb}
 use Rattle.std.specs.List.{last_or}
-use Rattle.std.specs.Ordering.{nat_cmp}
 use Rattle.std.specs.List.Sorted.{IsStrictlySortedBy}
-use Rattle.std.proofs.Common.{refl, sym, ap, ◌∙◌, arith, eq-eqb, ne_eqb}
 use Rattle.std.proofs.lemmas.Bool.{cond-true, cond-false}
 use Rattle.std.proofs.lemmas.List.{append-nil, length-append, map-id, take_more}
 use Rattle.std.proofs.lemmas.List.Elements.{filter-append}
-use Rattle.ci_values.specs.declared.attempts.AttemptState.{AttemptState}
-use Rattle.ci_machine.specs.declared.records.Job.{Job}
-use Rattle.ci_machine.specs.declared.records.Attempt.{Attempt}
+use Rattle.ci_machine_steps.specs.Prelude.{AttemptState, Job, Attempt}
 use Rattle.ci_machine.proofs.Keyed.{Rising}
 use Rattle.ci_machine_statuses.specs.declared.tally.Tally.{Tally}
 use Rattle.ci_machine_statuses.specs.Lookups.{tally_of, tally_at, no_tally, place_of}
@@ -56,11 +53,6 @@ none_counted numbers xs a e = map_same (tally_of (xs ++ a ∷ [])) (tally_of xs)
 pub none_yet : (numbers : List ℕ) → map (tally_of []) numbers ≡ replicate (length numbers) (record { count = 0; last = None })
 none_yet [] = refl
 none_yet (n ∷ ns) = cons_same refl (none_yet ns)
-
-pub nothing_counted : (n place : ℕ) → (tally_at (replicate n (record { count = 0; last = None })) place).count ≡ 0
-nothing_counted zero place = refl
-nothing_counted (suc n) zero = refl
-nothing_counted (suc n) (suc place) = nothing_counted n place
 
 -- one attempt more of one job: none has counted more than one more
 pub few_more : (ts : List Tally) (place n : ℕ) (t : Tally) → ((p : ℕ) → (tally_at ts p).count ≤ n) → t.count ≤ n + 1 → (p : ℕ) → (tally_at (slice_set ts place t) p).count ≤ n + 1

@@ -1,14 +1,7 @@
 -- What is looked up of a pipeline's jobs is there: as many attempts of each as are set aside, and its row.
-use Rattle.std.specs.Prelude.{◌≡◌, ℕ, ◌≤◌, true, ◌==◌, List, length, map, filter, All}
-use Rattle.std.proofs.Common.{sym, ap, subst, ◌∙◌, eqb-true}
-use Rattle.ci_graph.specs.Lists.{is_among}
-use Rattle.ci_machine.specs.declared.records.Job.{Job}
-use Rattle.ci_machine.specs.declared.records.Need.{Need}
-use Rattle.ci_machine.specs.declared.records.Attempt.{Attempt}
-use Rattle.ci_machine.specs.declared.records.BoardRow.{BoardRow}
-use Rattle.ci_machine.specs.State.{State}
-use Rattle.ci_machine.specs.Ranges.{is_within}
-use Rattle.ci_machine.specs.Statuses.{attempts_of, AreBoard}
+use Rattle.std.proofs.Common.{◌≡◌, ℕ, ◌≤◌, true, ◌==◌, List, length, map, filter, All, sym, ap, subst, ◌∙◌, eqb-true}
+use Rattle.ci_machine.specs.Prelude.{is_among}
+use Rattle.ci_machine_steps.specs.Prelude.{Job, Need, Attempt, BoardRow, State, is_within, attempts_of, AreBoard}
 use Rattle.ci_machine.proofs.Keyed.{Has, has_filter, filter_has, has_map, map_has, has_from_all, All-from_has}
 use Rattle.ci_machine.proofs.Filters.{filter_implied}
 use Rattle.ci_machine_steps.proofs.Sound.{Sound}

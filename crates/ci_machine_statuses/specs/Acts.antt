@@ -1,30 +1,10 @@
 -- What a user does to jobs of a pipeline: whether their statuses permit it, the changes, and what becomes of their facts.
 use Rattle.std.specs.Prelude.{◌≡◌, ◌<◌, ℕ, Bool, true, false, ◌&&◌, ◌==◌, List, [], ◌++◌, length, map, filter, All, if◌then◌else◌, Option, Some, None, slice_index_or}
-use Rattle.ci_values.specs.declared.attempts.AttemptState.{AttemptState}
-use Rattle.ci_values.specs.declared.attempts.AttemptState.TheVariants.{Live, Cancelled}
-use Rattle.ci_graph.specs.Lists.{number_at}
-use Rattle.ci_board.specs.declared.facts.Facts.{Facts}
-use Rattle.ci_board.specs.declared.facts.FactsChange.{FactsChange}
-use Rattle.ci_board.specs.declared.facts.Row.{Row}
-use Rattle.ci_board.specs.declared.facts.Status.{Status}
-use Rattle.ci_board.specs.Rows.{facts_at, row_at}
-use Rattle.ci_machine.specs.declared.records.Job.{Job}
-use Rattle.ci_machine.specs.declared.records.Attempt.{Attempt}
-use Rattle.ci_machine.specs.declared.change.RowChange.{RowChange}
-use Rattle.ci_machine.specs.declared.change.RowChange.TheVariants.{Put}
-use Rattle.ci_machine.specs.declared.change.Record.TheVariants as row
-use Rattle.ci_machine.specs.declared.records.BoardRow.{BoardRow}
-use Rattle.ci_machine.specs.State.{State, applied}
-use Rattle.ci_machine.specs.Kept.{put_rows}
-use Rattle.ci_machine.specs.Statuses.{jobs_of, numbers_of, attempts_of, facts_in, facts_of, rows_of, status_for, AreRowsOf, AreBoard}
-use Rattle.ci_machine.specs.declared.records.Pipeline.{Pipeline}
-use Rattle.ci_machine.specs.Lookups.{queued}
-use Rattle.ci_machine.specs.Waiting.{claims_in}
-use Rattle.ci_machine_steps.specs.Plans.{Plan}
-use Rattle.ci_machine_steps.specs.Shows.{job_shown, pipeline_shown}
-use Rattle.ci_machine_steps.specs.Plays.{is_playable}
-use Rattle.ci_machine_steps.specs.Retries.{is_retryable}
-use Rattle.ci_machine_steps.specs.Cancels.{is_cancellable, is_lease_on, cancelled_job, cancelled_attempt}
+use Rattle.ci_machine_steps.specs.Prelude.{AttemptState, Live, Cancelled, Facts, FactsChange, Row, Status, facts_at, Job, Attempt, RowChange, Put, Record, BoardRow, State, applied}
+use Rattle.ci_machine_steps.specs.Prelude.{put_rows, jobs_of, numbers_of, attempts_of, facts_in, facts_of, rows_of, status_for, AreRowsOf, AreBoard, Pipeline, queued, claims_in}
+use Rattle.ci_machine_steps.specs.Prelude.{Plan, job_shown, pipeline_shown, is_playable, is_retryable, is_cancellable, is_lease_on, cancelled_job, cancelled_attempt}
+use Rattle.ci_machine.specs.Prelude.{number_at}
+use Rattle.ci_board.specs.Prelude.{row_at}
 use Rattle.ci_machine_statuses.specs.declared.act.Act.{Act}
 use Rattle.ci_machine_statuses.specs.declared.act.Act.TheVariants.{Play, Retry, Cancel}
 use Rattle.ci_machine_statuses.specs.declared.outcome.Outcome.{Outcome}
@@ -50,7 +30,7 @@ ended_leases Cancel attempts jobs = filter (is_lease_on jobs) attempts
 
 -- it is done to these jobs, all at once
 abbrev pub act_changes : Act → State → List Job → List RowChange
-act_changes act s jobs = map (λ j. Put (row.Job (marked act s j))) jobs ++ map (λ a. Put (row.Attempt (cancelled_attempt a))) (ended_leases act s.attempts jobs)
+act_changes act s jobs = map (λ j. Put (Record.Job (marked act s j))) jobs ++ map (λ a. Put (Record.Attempt (cancelled_attempt a))) (ended_leases act s.attempts jobs)
 
 -- a lease ends as cancelled, and what has ended stays
 abbrev pub cancelled_last : Option AttemptState → Option AttemptState

@@ -2,16 +2,9 @@
 use Rattle.std.specs.Prelude.{◌≡◌, ℕ, true, List, length, map, All}
 use Rattle.std.specs.Ordering.{nat_cmp}
 use Rattle.std.specs.List.Sorted.{IsStrictlySortedBy}
-use Rattle.ci_graph.specs.JobGraph.{JobGraph}
-use Rattle.ci_graph.specs.Lists.{number_at, is_among}
-use Rattle.ci_graph.specs.Pairs.{IsAcyclic}
-use Rattle.ci_board.specs.declared.facts.Row.{Row}
-use Rattle.ci_board.specs.Rows.{BoardState, differing, row_at}
-use Rattle.ci_machine.specs.declared.records.Job.{Job}
-use Rattle.ci_machine.specs.declared.records.Need.{Need}
-use Rattle.ci_machine.specs.declared.records.BoardRow.{BoardRow}
-use Rattle.ci_machine.specs.State.{State}
-use Rattle.ci_machine.specs.Statuses.{pairs_among, predecessors_by, numbers_of, graph_of, facts_of, rows_of}
+use Rattle.ci_machine.specs.Prelude.{JobGraph, number_at, is_among, IsAcyclic}
+use Rattle.ci_machine_steps.specs.Prelude.{Row, BoardState, differing, Job, Need, BoardRow, State, pairs_among, predecessors_by, numbers_of, graph_of, facts_of, rows_of}
+use Rattle.ci_board.specs.Prelude.{row_at}
 
 -- a job that one of the jobs with these numbers waits for is one of them too
 abbrev pub AreNamed : List ℕ → List Need → Type 0

@@ -2,20 +2,8 @@
 use Rattle.std.specs.Prelude.{◌≡◌, ◌≤◌, ℕ, true, false, List, ◌++◌, map, All, Contains}
 use Rattle.std.specs.Ordering.{nat_cmp}
 use Rattle.std.specs.List.Sorted.{IsStrictlySortedBy}
-use Rattle.ci_board.specs.declared.facts.Status.TheVariants as status
-use Rattle.ci_machine.specs.declared.records.Job.{Job}
-use Rattle.ci_machine.specs.declared.records.Need.{Need}
-use Rattle.ci_machine.specs.declared.records.Attempt.{Attempt}
-use Rattle.ci_machine.specs.declared.records.BoardRow.{BoardRow}
-use Rattle.ci_machine.specs.declared.change.Record.{Record}
-use Rattle.ci_machine.specs.declared.change.Record.TheVariants as row
-use Rattle.ci_machine.specs.declared.change.Key.{Key}
-use Rattle.ci_machine.specs.declared.change.Key.TheVariants as key
-use Rattle.ci_machine.specs.declared.change.RowChange.{RowChange}
-use Rattle.ci_machine.specs.declared.change.RowChange.TheVariants.{Put, Append, Remove}
-use Rattle.ci_machine.specs.Leases.{is_live}
-use Rattle.ci_machine.specs.State.{State}
-use Rattle.ci_machine.specs.Statuses.{numbers_of, graph_of, facts_of, row_for}
+use Rattle.ci_machine_steps.specs.Prelude.{Status, Job, Need, Attempt, BoardRow, Record, Key, RowChange, Put, Append, Remove, is_live, State, numbers_of, graph_of, facts_of}
+use Rattle.ci_machine_steps.specs.Prelude.{row_for}
 
 -- Between two states the jobs of each pipeline are the same, with the same graph; and the facts of every pipeline but this one.
 pub record IsWithin (s t : State) (pipeline : ℕ) : Type 0 where
@@ -41,21 +29,21 @@ HasLive s a = (b : Attempt) × Contains s.attempts b × (b.id ≡ a.id) × (b.jo
 
 -- no status depends on the record, where it is put into the state
 abbrev pub IsNoStatus : State → Record → Type 0
-IsNoStatus s (row.Project p) = Unit {0}
-IsNoStatus s (row.Variable v) = Unit {0}
-IsNoStatus s (row.Runner r) = Unit {0}
-IsNoStatus s (row.Pipeline p) = ⊥
-IsNoStatus s (row.Job j) = ⊥
-IsNoStatus s (row.JobVariable v) = Unit {0}
-IsNoStatus s (row.Need w) = ⊥
-IsNoStatus s (row.Attempt a) = HasLike s a
-IsNoStatus s (row.Mode m) = Unit {0}
-IsNoStatus s (row.Next counter n) = Unit {0}
+IsNoStatus s (Record.Project p) = Unit {0}
+IsNoStatus s (Record.Variable v) = Unit {0}
+IsNoStatus s (Record.Runner r) = Unit {0}
+IsNoStatus s (Record.Pipeline p) = ⊥
+IsNoStatus s (Record.Job j) = ⊥
+IsNoStatus s (Record.JobVariable v) = Unit {0}
+IsNoStatus s (Record.Need w) = ⊥
+IsNoStatus s (Record.Attempt a) = HasLike s a
+IsNoStatus s (Record.Mode m) = Unit {0}
+IsNoStatus s (Record.Next counter n) = Unit {0}
 
 -- no status depends on the record with the key: it is a project's variable, or the process mode of a resource group
 abbrev pub IsNoStatusKey : Key → Type 0
-IsNoStatusKey (key.Variable project name) = Unit {0}
-IsNoStatusKey (key.Mode project name) = Unit {0}
+IsNoStatusKey (Key.Variable project name) = Unit {0}
+IsNoStatusKey (Key.Mode project name) = Unit {0}
 IsNoStatusKey _ = ⊥
 
 -- the change leaves all statuses of the state
@@ -66,7 +54,7 @@ LeavesStatuses s (Remove k) = IsNoStatusKey k
 
 -- the row of a pending job that is started
 abbrev pub started_row : List BoardRow → ℕ → BoardRow
-started_row board job = record { job = job; row = record (row_for board job) { status = status.Running } }
+started_row board job = record { job = job; row = record (row_for board job) { status = Status.Running } }
 
 -- A pipeline was made: its jobs come behind all others, and so do their needs; none of them was tried.
 pub record IsMade (s t : State) (pipeline : ℕ) (jobs : List Job) (needs : List Need) : Type 0 where

@@ -1,17 +1,8 @@
 -- What an event changes of what is kept beside the state: which groups are held, and which pipelines aren't finished.
 use Rattle.std.specs.Prelude.{ℕ, Bool, true, false, ◌==◌, List, [], ◌++◌, map, filter, find, flat_map, Option, Some, None, option_map, option_to_list}
-use Rattle.ci_board.specs.declared.facts.Status.{Status}
-use Rattle.ci_machine.specs.declared.records.Pipeline.{Pipeline}
-use Rattle.ci_machine.specs.declared.records.Job.{Job}
-use Rattle.ci_machine.specs.declared.records.QueuedJob.{QueuedJob}
-use Rattle.ci_machine.specs.declared.records.Attempt.{Attempt}
-use Rattle.ci_machine.specs.declared.records.Holder.{Holder}
-use Rattle.ci_machine.specs.declared.change.IndexChange.{IndexChange}
-use Rattle.ci_machine.specs.declared.change.IndexChange.TheVariants.{Open, Close}
+use Rattle.ci_machine_steps.specs.Prelude.{Status, Pipeline, Job, QueuedJob, Attempt, Holder, IndexChange, Close, held_by, is_unfinished, is_lease_on}
+use Rattle.ci_machine.specs.declared.change.IndexChange.TheVariants.{Open}
 use Rattle.ci_machine.specs.Holders as holders
-use Rattle.ci_machine.specs.Holders.{held_by}
-use Rattle.ci_machine.specs.Redundant.{is_unfinished}
-use Rattle.ci_machine_steps.specs.Cancels.{is_lease_on}
 use Rattle.ci_machine_statuses.specs.declared.act.Act.{Act}
 use Rattle.ci_machine_statuses.specs.declared.act.Act.TheVariants.{Play, Retry, Cancel}
 

@@ -1,7 +1,6 @@
 pub mod Lookups
 pub mod Boards
 pub mod Changes
-pub mod Pages
 pub mod Acts
 pub mod Ends
 pub mod HolderChanges

@@ -1,15 +1,8 @@
 -- What is looked up of a pipeline's jobs, and what a board takes of it.
 use Rattle.std.specs.Prelude.{◌≡◌, ℕ, ◌-◌, true, List, length, filter, All, Option, Some, None, option_map, if◌then◌else◌, ◌==◌, slice_index_or}
 use Rattle.std.specs.List.{last_or}
-use Rattle.ci_graph.specs.Lists.{is_among}
-use Rattle.ci_board.specs.declared.facts.Facts.{Facts}
-use Rattle.ci_machine.specs.declared.records.Job.{Job}
-use Rattle.ci_machine.specs.declared.records.Need.{Need}
-use Rattle.ci_machine.specs.declared.records.Attempt.{Attempt}
-use Rattle.ci_machine.specs.declared.records.BoardRow.{BoardRow}
-use Rattle.ci_machine.specs.State.{State}
-use Rattle.ci_machine.specs.Statuses.{jobs_of, place_in}
-use Rattle.ci_machine.specs.Ranges.{is_within, needs_within, attempts_within, rows_within}
+use Rattle.ci_machine.specs.Prelude.{is_among}
+use Rattle.ci_machine_steps.specs.Prelude.{Facts, Job, Need, Attempt, BoardRow, State, jobs_of, place_in, is_within, needs_within, attempts_within, rows_within}
 use Rattle.ci_machine_statuses.specs.declared.tally.Tally.{Tally}
 
 -- These are the jobs of the pipeline, and the needs, attempts and rows of the jobs between two numbers, which take in its own.

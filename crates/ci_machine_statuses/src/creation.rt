@@ -1,12 +1,7 @@
 //! The rows of the jobs of a new pipeline.
 
 ghost use Rattle.std.specs.Prelude.{◌≡◌, ◌<◌, ℕ, List, map, length, replicate, IfOk};
-ghost use Rattle.ci_board.specs.Rows.{no_facts};
-ghost use Rattle.ci_machine.specs.declared.records.BoardRow.{BoardRow};
-ghost use Rattle.ci_machine.specs.State.{State};
-ghost use Rattle.ci_machine.specs.Kept.{put_rows};
-ghost use Rattle.ci_machine.specs.Statuses.{AreBoard};
-ghost use Rattle.ci_machine_steps.specs.Sound.{IsSound};
+ghost use Rattle.ci_machine_steps.specs.Prelude.{no_facts, BoardRow, State, put_rows, AreBoard, IsSound};
 ghost use Rattle.ci_machine_statuses.specs.Changes.{IsMade};
 
 use crate::fault::StatusFault;

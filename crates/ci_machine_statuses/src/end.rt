@@ -1,12 +1,7 @@
 //! What becomes of a pipeline's jobs where an attempt ends.
 
 ghost use Rattle.std.specs.Prelude.{◌≡◌, ◌<◌, ℕ, List, length, IfOk};
-ghost use Rattle.ci_machine.specs.declared.records.BoardRow.{BoardRow};
-ghost use Rattle.ci_machine.specs.declared.records.Need.{Need};
-ghost use Rattle.ci_machine.specs.Bodies.{status_of_jobs};
-ghost use Rattle.ci_machine.specs.State.{State};
-ghost use Rattle.ci_machine.specs.Statuses.{AreBoard, facts_of, rows_of};
-ghost use Rattle.ci_machine_steps.specs.Sound.{IsSound};
+ghost use Rattle.ci_machine_steps.specs.Prelude.{BoardRow, Need, status_of_jobs, State, AreBoard, facts_of, rows_of, IsSound};
 ghost use Rattle.ci_machine_statuses.specs.Boards.{IsGraphOf};
 ghost use Rattle.ci_machine_statuses.specs.Lookups.{AreRecords};
 ghost use Rattle.ci_machine_statuses.specs.Changes.{HasLive};

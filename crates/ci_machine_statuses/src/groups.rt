@@ -1,12 +1,9 @@
 //! Resource groups that are held.
 
-ghost use Rattle.std.specs.Prelude.{◌≡◌, ◌∷◌, [], ◌++◌, ◌==◌, map, find, option_to_list, IfOk, OnOk};
+ghost use Rattle.std.specs.Prelude.{◌≡◌, ◌∷◌, [], ◌++◌, ◌==◌, map, find, option_to_list, IfOk, OnOk, option_copied};
 ghost use Rattle.std.specs.List.{list_any};
-ghost use Rattle.std.specs.Option.{option_copied};
-ghost use Rattle.ci_machine_steps.specs.Cancels.{is_lease_on};
-ghost use Rattle.ci_machine.specs.Groups.{held_claim};
+ghost use Rattle.ci_machine_steps.specs.Prelude.{is_lease_on, held_claim, holds_group, group_held};
 ghost use Rattle.ci_machine.specs.Holders as holders;
-ghost use Rattle.ci_machine.specs.Holders.{holds_group, group_held};
 ghost use Rattle.ci_machine_statuses.specs.HolderChanges.{freed};
 
 use ci_machine::change::IndexChange;

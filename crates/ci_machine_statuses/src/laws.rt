@@ -2,40 +2,20 @@
 
 ghost use Rattle.std.specs.Prelude.{◌≡◌, ◌<◌, ◌++◌, ◌==◌, ℕ, Bool, true, List, [], ◌∷◌, length, map, filter, if◌then◌else◌, All, Contains, Option, Some, None, Ok};
 ghost use Rattle.std.specs.List.{AllByRecursion};
-ghost use Rattle.ci_values.specs.declared.attempts.AttemptState.TheVariants.{Live};
-ghost use Rattle.ci_board.specs.declared.facts.Row.{Row};
-ghost use Rattle.ci_board.specs.Rows.{AreRows, row_at as row_of};
-ghost use Rattle.ci_machine.specs.declared.records.Job.{Job};
-ghost use Rattle.ci_machine.specs.declared.records.Attempt.{Attempt};
-ghost use Rattle.ci_machine.specs.declared.records.Need.{Need};
-ghost use Rattle.ci_machine.specs.declared.records.QueuedJob.{QueuedJob};
-ghost use Rattle.ci_machine.specs.declared.records.BoardRow.{BoardRow};
+ghost use Rattle.ci_machine_steps.specs.Prelude.{Live, Row, AreRows, Job, Attempt, Need, QueuedJob, BoardRow, RowChange, NewPipeline, State, without_all, applied, claims_on};
+ghost use Rattle.ci_machine_steps.specs.Prelude.{put_rows, waiting, groups_with, claims_in, jobs_of, numbers_of, attempts_of, graph_of, facts_of, rows_of, row_for, status_for};
+ghost use Rattle.ci_machine_steps.specs.Prelude.{AreRowsOf, AreBoard, Pipeline, ShowsJobAfter, ShowsPipelineAfter, play, retry, pipeline_goes, prune, cancellable_jobs, cancel};
+ghost use Rattle.ci_machine_steps.specs.Prelude.{Status, IsSound, is_pending, queue, queued_at, rows_with, is_within, attempts_within, numbered, Layout, IsLaidOut, Creation, creation};
+ghost use Rattle.ci_machine_steps.specs.Prelude.{creation_changes};
+ghost use Rattle.ci_board.specs.Prelude.{row_at as row_of};
 ghost use Rattle.ci_machine.specs.declared.change.Record.TheVariants as row;
 ghost use Rattle.ci_machine.specs.declared.change.Counter.TheVariants as counter;
-ghost use Rattle.ci_machine.specs.declared.change.RowChange.{RowChange};
-ghost use Rattle.ci_machine.specs.declared.request.NewPipeline.{NewPipeline};
-ghost use Rattle.ci_machine.specs.State.{State, without_all, applied};
-ghost use Rattle.ci_machine.specs.Groups.{claims_on};
-ghost use Rattle.ci_machine.specs.Kept.{put_rows};
-ghost use Rattle.ci_machine.specs.Waiting.{waiting, groups_with, claims_in};
-ghost use Rattle.ci_machine.specs.Statuses.{jobs_of, numbers_of, attempts_of, graph_of, facts_of, rows_of, row_for, status_for, AreRowsOf, AreBoard};
-ghost use Rattle.ci_machine.specs.declared.records.Pipeline.{Pipeline};
-ghost use Rattle.ci_machine_steps.specs.Acts.{ShowsJobAfter, ShowsPipelineAfter};
-ghost use Rattle.ci_machine_steps.specs.Plays.{play};
-ghost use Rattle.ci_machine_steps.specs.Retries.{retry};
-ghost use Rattle.ci_machine_steps.specs.Prunes.{pipeline_goes, prune};
-ghost use Rattle.ci_machine_steps.specs.Cancels.{cancellable_jobs, cancel};
-ghost use Rattle.ci_machine_steps.specs.Sound.{IsSound};
-ghost use Rattle.ci_machine_steps.specs.Step.{is_pending, queue, queued};
-ghost use Rattle.ci_machine.specs.Ranges.{is_within, attempts_within, row_at, pending_after};
-ghost use Rattle.ci_machine_steps.specs.Plans.{numbered};
-ghost use Rattle.ci_graph_layout.specs.Inclusion.{Given};
-ghost use Rattle.ci_machine_steps.specs.Pipelines.{Layout, IsLaidOut, Creation, creation, creation_changes};
+ghost use Rattle.ci_machine.specs.Prelude.{row_at};
+ghost use Rattle.ci_graph_layout.specs.Prelude.{Given};
 ghost use Rattle.ci_machine_statuses.specs.Boards.{changed_rows};
 ghost use Rattle.ci_machine_statuses.specs.Lookups.{AreRecords};
 ghost use Rattle.ci_machine_statuses.specs.Changes.{IsWithin, HaveSameFacts, LeavesStatuses, IsMade, started_row};
 ghost use Rattle.ci_machine_statuses.specs.Acts.{is_permitted, act_changes, facts_acted, acted_jobs, acted_state, shows_job_by, shows_pipeline_by, IsOutcome};
-ghost use Rattle.ci_machine_statuses.specs.Pages.{queue_behind, end_of_page, queued_at};
 
 use crate::act::Act;
 use crate::outcome::Outcome;
@@ -144,13 +124,8 @@ pub fn each_job_has_its_row()
     ensures found { (s : State) (board : List BoardRow) (r : BoardRow) → IsSound s → AreBoard s board → Contains board r → row_for board r.job ≡ r.row }
 {}
 
-/// The queue is the pending jobs behind 0; the pending jobs behind a number are those of a page of rows behind it, and behind
-/// these the pending jobs behind the page's end; where the page isn't full there are none there.
-pub fn the_queue_is_its_pages()
-    ensures begin { (s : State) (board : List BoardRow) → IsSound s → queue_behind s board 0 ≡ queue s board }
-    ensures page { (s : State) (board : List BoardRow) (count n : ℕ) (jobs : List QueuedJob) → IsSound s → AreBoard s board
-        → map (λ q. Some q) jobs ≡ map (queued_at s) (pending_after count n board)
-        → queue_behind s board n ≡ jobs ++ queue_behind s board (end_of_page n (pending_after count n board)) }
-    ensures end { (s : State) (board : List BoardRow) (count n : ℕ) → IsSound s → AreBoard s board → length (pending_after count n board) < count
-        → queue_behind s board (end_of_page n (pending_after count n board)) ≡ [] }
+/// The pending jobs are those of the pending rows, in the order of these.
+pub fn the_queue_is_its_rows()
+    ensures { (s : State) (board : List BoardRow) → IsSound s → AreBoard s board
+        → map (λ r. queued_at s r.job) (rows_with Status.Pending board) ≡ map (λ q. Some q) (queue s board) }
 {}

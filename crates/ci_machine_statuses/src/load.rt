@@ -3,16 +3,10 @@
 ghost use Rattle.std.specs.Prelude.{◌≡◌, ◌<◌, ◌≤◌, ℕ, true, List, [], map, length, All, IfOk, IfErr, IfSome, OnOk, None};
 ghost use Rattle.std.specs.Ordering.{nat_cmp};
 ghost use Rattle.std.specs.List.Sorted.{IsStrictlySortedBy};
-ghost use Rattle.ci_machine.specs.declared.records.BoardRow.{BoardRow};
-ghost use Rattle.ci_machine.specs.State.{State};
-ghost use Rattle.ci_machine.specs.declared.records.Need.{Need};
+ghost use Rattle.ci_machine_steps.specs.Prelude.{BoardRow, State, Need, jobs_of, numbers_of, row_for, AreBoard, IsSound, is_within, pairs_among, predecessors_by};
 ghost use Rattle.ci_machine.specs.Statuses as statuses;
-ghost use Rattle.ci_machine.specs.Statuses.{jobs_of, numbers_of, row_for, AreBoard};
-ghost use Rattle.ci_machine_steps.specs.Sound.{IsSound};
-ghost use Rattle.ci_machine.specs.Ranges.{is_within};
-ghost use Rattle.ci_graph.specs.Lists.{is_among};
+ghost use Rattle.ci_machine.specs.Prelude.{is_among};
 ghost use Rattle.ci_machine_statuses.specs.Lookups.{tally_of, facts_by, AreRecords, AreJobsWithNeeds};
-ghost use Rattle.ci_machine.specs.Statuses.{pairs_among, predecessors_by};
 ghost use Rattle.ci_machine_statuses.specs.Boards.{IsBoardOf, IsGraphOf, IsItsGraph, FitTogether};
 ghost use Rattle.ci_machine_statuses.specs.declared.fault.StatusFault.TheVariants.{Broken, Memory};
 

@@ -2,10 +2,7 @@
 
 ghost use Rattle.std.specs.Prelude.{◌≡◌, ◌<◌, ℕ, List, filter, map, length, All, IfOk};
 ghost use Rattle.std.specs.List.{range_with_len};
-ghost use Rattle.ci_machine.specs.declared.records.BoardRow.{BoardRow};
-ghost use Rattle.ci_machine.specs.State.{State};
-ghost use Rattle.ci_machine.specs.Statuses.{AreBoard};
-ghost use Rattle.ci_machine_steps.specs.Sound.{IsSound};
+ghost use Rattle.ci_machine_steps.specs.Prelude.{BoardRow, State, AreBoard, IsSound};
 ghost use Rattle.ci_machine_statuses.specs.Lookups.{AreRecords};
 ghost use Rattle.ci_machine_statuses.specs.Acts.{is_asked, is_acted_at, facts_change, IsOutcome};
 

@@ -2,7 +2,7 @@
 
 ghost use Rattle.std.specs.Prelude.{◌≡◌};
 ghost use Rattle.ci_board.specs.declared.facts.Status.TheVariants as status;
-ghost use Rattle.ci_machine.specs.Statuses.{row_or_none};
+ghost use Rattle.ci_machine_steps.specs.Prelude.{row_or_none};
 
 use ci_board::facts::{Row, Status};
 use ci_machine::records::BoardRow;

@@ -3,11 +3,9 @@
 ghost use Rattle.std.specs.Prelude.{◌≡◌, ◌<◌, true, false, map, length, slice_index_or, IfOk, IfErr, IfSome, OnOk, OnErr};
 ghost use Rattle.std.specs.Ordering.{nat_cmp};
 ghost use Rattle.std.specs.List.Sorted.{IsStrictlySortedBy};
-ghost use Rattle.ci_graph.specs.Lists.{is_among};
-ghost use Rattle.ci_graph.specs.Pairs.{AreWithin};
-ghost use Rattle.ci_machine.specs.Statuses.{place_in};
+ghost use Rattle.ci_machine.specs.Prelude.{is_among, AreWithin};
+ghost use Rattle.ci_machine_steps.specs.Prelude.{place_in, pairs_among};
 ghost use Rattle.ci_machine_statuses.specs.Lookups.{place_of};
-ghost use Rattle.ci_machine.specs.Statuses.{pairs_among};
 ghost use Rattle.ci_machine_statuses.specs.Boards.{AreNamed};
 ghost use Rattle.ci_machine_statuses.specs.declared.fault.StatusFault.TheVariants.{Broken};
 

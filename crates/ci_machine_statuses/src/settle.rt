@@ -1,8 +1,8 @@
 //! Changes of the facts of one pipeline's jobs, and the rows that differ then.
 
 ghost use Rattle.std.specs.Prelude.{◌≡◌, ◌<◌, ◌==◌, false, map, length, IfOk, IfSome, OnOk, All, Some, None};
-ghost use Rattle.ci_graph.specs.Lists.{number_at};
-ghost use Rattle.ci_board.specs.Rows.{AreRows, facts_at, replaced};
+ghost use Rattle.ci_machine.specs.Prelude.{number_at};
+ghost use Rattle.ci_machine_steps.specs.Prelude.{AreRows, facts_at, replaced};
 ghost use Rattle.ci_machine_statuses.specs.Boards.{board_row, changed_rows};
 
 use ci_board::board::Board;

@@ -3,20 +3,8 @@ use Rattle.std.specs.Prelude.{◌≡◌, List, map, codes}
 use Rattle.serde_json.specs.Data.{Data, array, object, member, no_members, string, number, unsigned}
 use Rattle.serde_json.specs.View.{items_of}
 use Rattle.serde_json.specs.Written.{compact_text}
-use Rattle.ci_graph.specs.declared.part.Part.{Part}
-use Rattle.ci_board.specs.declared.facts.Facts.{Facts}
-use Rattle.ci_board.specs.declared.facts.Row.{Row}
-use Rattle.ci_board.specs.Rows.{statuses}
-use Rattle.ci_board.specs.Texts.{status_text}
-use Rattle.ci_board.specs.PipelineStatus.{pipeline_status}
-use Rattle.ci_machine.specs.declared.records.Pipeline.{Pipeline}
-use Rattle.ci_machine.specs.declared.records.Job.{Job}
-use Rattle.ci_machine.specs.declared.records.Claim.{Claim}
-use Rattle.ci_machine.specs.declared.reply.Body.TheVariants.{Json}
-use Rattle.ci_machine.specs.declared.reply.Reply.{Reply}
-use Rattle.ci_machine.specs.Bodies.{source_text, jobs_data}
-use Rattle.ci_machine_steps.specs.Plans.{fine}
-use Rattle.ci_machine_steps.specs.Shows.{pipeline_shown}
+use Rattle.ci_machine.specs.Prelude.{Part}
+use Rattle.ci_machine_steps.specs.Prelude.{Facts, Row, statuses, status_text, pipeline_status, Pipeline, Job, Claim, Json, Reply, source_text, jobs_data, fine, pipeline_shown}
 
 -- the reply with what is said of its jobs, their parts, facts and rows
 abbrev shown_by : Pipeline → List Data → List Part → List Facts → List Row → Reply

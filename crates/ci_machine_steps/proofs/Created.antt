@@ -1,30 +1,18 @@
 -- What the changes of a creation lead to, and what its records are.
-use Rattle.std.specs.Prelude.{◌≡◌, ◌⊎◌, ℕ, suc, ◌+◌, ◌<◌, ◌≤◌, List, [], ◌∷◌, ◌++◌, length, map, filter, nat_lt, Option, Some, None, Result, Ok, Err}
+use Rattle.std.proofs.Common.{◌≡◌, ◌⊎◌, ℕ, suc, ◌+◌, ◌<◌, ◌≤◌, List, [], ◌∷◌, ◌++◌, length, map, filter, nat_lt, Option, Some, None, Result, Ok, Err, refl, sym, ap, subst, ◌∙◌}
+use Rattle.std.proofs.Common.{inl, inr, ⊎_elim, arith, ltb-true}
 use Rattle.std.specs.Cmp.{IsTotalOrder}
 use Rattle.std.proofs.lemmas.Cmp.{nat_cmp_total, on_total, then_total}
-use Rattle.std.proofs.Common.{refl, sym, ap, subst, ◌∙◌, inl, inr, ⊎_elim, arith, ltb-true}
 use Rattle.std.proofs.lemmas.Bool.{cond_both, ltb-false}
 use Rattle.ci_config.specs.Config as config
-use Rattle.ci_config.specs.Config.{Text, Config}
-use Rattle.ci_graph.specs.Pairs.{AreWithin}
+use Rattle.ci_graph_layout.specs.Prelude.{Text, Config, Given, IncludedJob, included, all_included, is_of, by_stage, lineup, pairs, Plan, Plans, faulty, cyclic, planned}
+use Rattle.ci_machine.specs.Prelude.{AreWithin}
 use Rattle.ci_graph_layout.proofs.Within.{pairs_within}
-use Rattle.ci_graph_layout.specs.Inclusion.{Given, IncludedJob, included}
 use Rattle.ci_graph_layout.specs.Layout as layout
-use Rattle.ci_graph_layout.specs.Layout.{all_included, is_of, by_stage, lineup, pairs}
-use Rattle.ci_graph_layout.specs.Fault.{Plan, Plans, faulty, cyclic, planned}
 use Rattle.ci_graph_layout.specs.declared.fault.GraphCode.{GraphCode}
-use Rattle.ci_machine.specs.declared.records.Job.{Job}
-use Rattle.ci_machine.specs.declared.records.JobVariable.{JobVariable}
-use Rattle.ci_machine.specs.declared.records.Need.{Need}
-use Rattle.ci_machine.specs.declared.change.RowChange.{RowChange}
-use Rattle.ci_machine.specs.declared.change.RowChange.TheVariants.{Put}
-use Rattle.ci_machine.specs.declared.change.Record.TheVariants as row
-use Rattle.ci_machine.specs.declared.change.Counter.TheVariants as counter
-use Rattle.ci_machine.specs.declared.reply.Detail.{Detail}
-use Rattle.ci_machine.specs.State.{State, put, pipeline_cmp, job_cmp, job_variable_cmp, need_cmp, applied, changed}
-use Rattle.ci_machine_steps.specs.Files.{IsRead}
+use Rattle.ci_machine_steps.specs.Prelude.{Job, JobVariable, Need, RowChange, Put, Record, Counter, Detail, State, put, pipeline_cmp, job_cmp, job_variable_cmp, need_cmp, applied}
+use Rattle.ci_machine_steps.specs.Prelude.{changed, IsRead, Layout, IsLaidOut, misread, unplanned, new_job, new_jobs, need_of, put_needs, Creation, creation_changes}
 use Rattle.ci_machine_steps.specs.Pipelines as pipelines
-use Rattle.ci_machine_steps.specs.Pipelines.{Layout, IsLaidOut, misread, unplanned, new_job, new_jobs, need_of, put_needs, Creation, creation_changes}
 use Rattle.ci_machine.proofs.Keyed.{Has, Rising, Below, rising_from, has_put, has_filter, has_from_all}
 use Rattle.ci_machine_steps.proofs.Behind.{in_either, put_all, all_behind, rising_ordered, nat_less}
 use Rattle.ci_machine_steps.proofs.Variables.{Ordered, put_ordered}
@@ -35,15 +23,15 @@ pub applied_append : (xs ys : List RowChange) (s : State) → applied (xs ++ ys)
 applied_append [] ys s = refl
 applied_append (c ∷ cs) ys s = applied_append cs ys (changed c s)
 
-jobs_put : (js : List Job) (s : State) → applied (map (λ j. Put (row.Job j)) js) s ≡ record s { jobs = put_all job_cmp js s.jobs }
+jobs_put : (js : List Job) (s : State) → applied (map (λ j. Put (Record.Job j)) js) s ≡ record s { jobs = put_all job_cmp js s.jobs }
 jobs_put [] s = refl
 jobs_put (j ∷ js) s = jobs_put js (record s { jobs = put job_cmp j s.jobs })
 
-variables_put : (vs : List JobVariable) (s : State) → applied (map (λ v. Put (row.JobVariable v)) vs) s ≡ record s { job_variables = put_all job_variable_cmp vs s.job_variables }
+variables_put : (vs : List JobVariable) (s : State) → applied (map (λ v. Put (Record.JobVariable v)) vs) s ≡ record s { job_variables = put_all job_variable_cmp vs s.job_variables }
 variables_put [] s = refl
 variables_put (v ∷ vs) s = variables_put vs (record s { job_variables = put job_variable_cmp v s.job_variables })
 
-needs_put : (ws : List Need) (s : State) → applied (map (λ w. Put (row.Need w)) ws) s ≡ record s { needs = put_all need_cmp ws s.needs }
+needs_put : (ws : List Need) (s : State) → applied (map (λ w. Put (Record.Need w)) ws) s ≡ record s { needs = put_all need_cmp ws s.needs }
 needs_put [] s = refl
 needs_put (w ∷ ws) s = needs_put ws (record s { needs = put need_cmp w s.needs })
 
@@ -59,10 +47,10 @@ created_state first made s = record s {
 
 pub after_creation : (first : ℕ) (made : Creation) (s : State) → applied (creation_changes first made) s ≡ created_state first made s
 after_creation first made s =
-    let js = map (λ (j : Job). Put (row.Job j)) made.jobs in
-    let vs = map (λ (v : JobVariable). Put (row.JobVariable v)) made.variables in
-    let ws = map (λ (w : Need). Put (row.Need w)) made.needs in
-    let m = applied (Put (row.Pipeline made.pipeline) ∷ Put (row.Next counter.Pipeline (made.pipeline.id + 1)) ∷ Put (row.Next counter.Job (first + length made.jobs)) ∷ []) s in
+    let js = map (λ (j : Job). Put (Record.Job j)) made.jobs in
+    let vs = map (λ (v : JobVariable). Put (Record.JobVariable v)) made.variables in
+    let ws = map (λ (w : Need). Put (Record.Need w)) made.needs in
+    let m = applied (Put (Record.Pipeline made.pipeline) ∷ Put (Record.Next Counter.Pipeline (made.pipeline.id + 1)) ∷ Put (Record.Next Counter.Job (first + length made.jobs)) ∷ []) s in
     applied_append js (vs ++ ws) m
     ∙ (ap (applied (vs ++ ws)) (jobs_put made.jobs m)
     ∙ (applied_append vs ws (record m { jobs = put_all job_cmp made.jobs m.jobs })

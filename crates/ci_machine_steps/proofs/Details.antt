@@ -1,11 +1,8 @@
 -- A detail prints a fault of keywords as that fault is shown.
-use Rattle.std.specs.Prelude.{◌≡◌}
+use Rattle.std.proofs.Common.{◌≡◌, refl}
 use Rattle.std.specs.Fmt.{digits}
-use Rattle.std.proofs.Common.{refl}
-use Rattle.ci_expr.specs.declared.fault.ExprCode.TheVariants.{X1, X2, X3, X4, X5, X6, X7, X8}
-use Rattle.ci_config.specs.Fault.{Fault, K1, K2, K3, K4, K5, K6, K7, K8, K9, K10, K11, K12, K13, K14, K15, K16, said}
-use Rattle.ci_machine.specs.Reply.{detail_text}
-use Rattle.ci_machine_steps.specs.Files.{keyword_fault}
+use Rattle.ci_graph_layout.specs.Prelude.{X1, X2, X3, X4, X5, X6, X7, X8, Fault, K1, K2, K3, K4, K5, K6, K7, K8, K9, K10, K11, K12, K13, K14, K15, K16, said}
+use Rattle.ci_machine_steps.specs.Prelude.{detail_text, keyword_fault}
 
 pub keywords_print : (fault : Fault) → detail_text (keyword_fault fault) ≡ said fault
 unfolding digits

@@ -1,27 +1,13 @@
 -- A finished pipeline has no live attempt, and once it is pruned each job of another is where it was.
-use Rattle.std.specs.Prelude.{◌≡◌, ℕ, zero, suc, ◌<◌, Bool, true, false, ◌==◌, ◌||◌, not, List, length, map, Some, slice_index_or}
-use Rattle.std.proofs.Common.{refl, sym, ap, subst, ◌∙◌, ⊎_elim, arith, eqb-true}
+use Rattle.std.proofs.Common.{◌≡◌, ℕ, zero, suc, ◌<◌, Bool, true, false, ◌==◌, ◌||◌, not, List, length, map, Some, slice_index_or, refl, sym, ap, subst, ◌∙◌, ⊎_elim, arith}
+use Rattle.std.proofs.Common.{eqb-true}
 use Rattle.std.proofs.lemmas.Bool.{both_ways, cases_Bool}
 use Rattle.std.proofs.lemmas.List.{get_or-map, length-map}
-use Rattle.ci_graph.specs.declared.part.Part.{Part}
-use Rattle.ci_board.specs.declared.facts.Facts.{Facts}
-use Rattle.ci_board.specs.declared.facts.Row.{Row}
-use Rattle.ci_board.specs.declared.facts.Status.{Status}
-use Rattle.ci_board.specs.declared.facts.Status.TheVariants as status
-use Rattle.ci_board.specs.Effects.{is_status}
-use Rattle.ci_board.specs.Rows.{no_row, row_at, statuses}
-use Rattle.ci_board.specs.PipelineStatus.{some_job, has_status, pipeline_status}
-use Rattle.ci_machine.specs.declared.records.Pipeline.{Pipeline}
-use Rattle.ci_machine.specs.declared.records.Job.{Job}
-use Rattle.ci_machine.specs.declared.records.Attempt.{Attempt}
-use Rattle.ci_machine.specs.declared.records.BoardRow.{BoardRow}
-use Rattle.ci_machine.specs.State.{State}
-use Rattle.ci_machine.specs.Statuses.{jobs_of, numbers_of, facts_of, row_for, rows_of, AreBoard}
-use Rattle.ci_machine.specs.Leases.{is_live}
-use Rattle.ci_machine.specs.Redundant.{is_unfinished}
-use Rattle.ci_machine.specs.Indexes.{is_open_in}
-use Rattle.ci_machine_steps.specs.Prunes.{is_job_among, without_pipeline}
-use Rattle.ci_machine_steps.specs.Step.{job_at, last_attempt}
+use Rattle.ci_machine.specs.Prelude.{Part}
+use Rattle.ci_machine_steps.specs.Prelude.{Facts, Row, Status, is_status, no_row, statuses, some_job, has_status, pipeline_status, Pipeline, Job, Attempt, BoardRow, State, jobs_of}
+use Rattle.ci_machine_steps.specs.Prelude.{numbers_of, facts_of, row_for, rows_of, AreBoard, is_live, is_unfinished, is_open_in, is_job_among, without_pipeline, job_at}
+use Rattle.ci_machine_steps.specs.Prelude.{last_attempt}
+use Rattle.ci_board.specs.Prelude.{row_at}
 use Rattle.ci_machine.proofs.Keyed.{Has, has_filter, contains_from_has}
 use Rattle.ci_machine.proofs.Tests.{any_has}
 use Rattle.ci_machine.proofs.Filters.{find_implied}
@@ -41,10 +27,10 @@ some_is (suc n) test i l e =
     ap (λ b. b || some_job n test) f ∙ some_is n test i (omega arith) e)
     (cases_Bool (test n))
 
-pub running_open : (parts : List Part) (facts : List Facts) (a : ℕ → Status) → some_job (length parts) (has_status a status.Running) ≡ true → is_unfinished (pipeline_status parts facts a) ≡ true
+pub running_open : (parts : List Part) (facts : List Facts) (a : ℕ → Status) → some_job (length parts) (has_status a Status.Running) ≡ true → is_unfinished (pipeline_status parts facts a) ≡ true
 running_open parts facts a e = rw e refl
 
-runs_open : (s : State) (board : List BoardRow) (p : Pipeline) (j : Job) → Has j (jobs_of s p.id) → (row_for board j.id).status ≡ status.Running → is_open_in s board p ≡ true
+runs_open : (s : State) (board : List BoardRow) (p : Pipeline) (j : Job) → Has j (jobs_of s p.id) → (row_for board j.id).status ≡ Status.Running → is_open_in s board p ≡ true
 runs_open s board p j has runs =
     let jobs = jobs_of s p.id in
     let at = contains_from_has j jobs has in
@@ -56,7 +42,7 @@ runs_open s board p j has runs =
     let parts : List Part = map (λ (w : Job). w.options.part) jobs in
     let inside : k < length parts = subst (λ n. k < n) (sym (length-map jobs (λ (w : Job). w.options.part))) at.1 in
     running_open parts (facts_of s p.id) (statuses rows)
-    (some_is (length parts) (has_status (statuses rows) status.Running) k inside (ap (is_status status.Running) (ap (λ (r : Row). r.status) row ∙ runs)))
+    (some_is (length parts) (has_status (statuses rows) Status.Running) k inside (ap (is_status Status.Running) (ap (λ (r : Row). r.status) row ∙ runs)))
 
 -- ---- what a prune leaves
 

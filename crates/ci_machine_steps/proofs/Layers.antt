@@ -1,23 +1,17 @@
 -- The variables of a job, of all layers: in the order of their names, each with its first value.
-use Rattle.std.specs.Prelude.{◌≡◌, ℕ, Bool, true, false, not, List, [], ◌∷◌, ◌++◌, map, if◌then◌else◌, Option, Some, None}
+use Rattle.std.proofs.Common.{◌≡◌, ℕ, Bool, true, false, not, List, [], ◌∷◌, ◌++◌, map, if◌then◌else◌, Option, Some, None, nat_cmp, is_eq, is_lt, Less, refl, sym, ap, ◌∙◌, inl}
+use Rattle.std.proofs.Common.{inr, ⊎_elim}
 use Rattle.std.specs.List.{AllByRecursion}
 use Rattle.std.specs.Str.{bytes_eq}
-use Rattle.std.specs.Ordering.{nat_cmp, is_eq, is_lt}
-use Rattle.std.specs.declared.cmp.Ordering.TheVariants.{Less}
 use Rattle.std.specs.Cmp.{IsTotalOrder}
 use Rattle.std.specs.Cmp.Lexicographic.{slice_cmp}
 use Rattle.std.specs.List.Sorted.{IsStrictlySortedBy}
-use Rattle.std.proofs.Common.{refl, sym, ap, ◌∙◌, inl, inr, ⊎_elim}
 use Rattle.std.proofs.lemmas.Bool.{cond_both, cond-false, both_ways, cases_Bool, false≢true}
 use Rattle.std.proofs.lemmas.Cmp.{on_total, nat_list_cmp_total}
 use Rattle.std.proofs.lemmas.Map.Text.{is_eq-slice_cmp}
 use Rattle.std.proofs.lemmas.Slice.Eq.{bytes_eq-Decides}
-use Rattle.ci_values.specs.Layers.{Variables, or_else, value_in}
-use Rattle.ci_values.specs.Table.{meaning_of}
-use Rattle.ci_config.specs.Config.{Config, Job}
-use Rattle.ci_graph_layout.specs.Inclusion.{Given, layered, own_names}
-use Rattle.ci_machine.specs.State.{placed, others, put}
-use Rattle.ci_machine_steps.specs.Pipelines.{name_cmp, merged}
+use Rattle.ci_machine_steps.specs.Prelude.{Variables, or_else, value_in, meaning_of, placed, others, put, name_cmp, merged}
+use Rattle.ci_graph_layout.specs.Prelude.{Config, Job, Given, layered, own_names}
 use Rattle.ci_machine.proofs.Keyed.{Has, has_filter}
 use Rattle.ci_machine_steps.proofs.Variables.{Ordered, put_ordered}
 

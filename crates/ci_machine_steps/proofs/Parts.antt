@@ -1,13 +1,9 @@
 -- A part that is cloned is the same.
-use Rattle.std.specs.Prelude.{◌≡◌, ℕ, ◌+◌, ◌<◌, List, [], ◌∷◌, ◌++◌, length, map, take, slice_index_or}
-use Rattle.std.proofs.Common.{refl, sym, ap, ◌∙◌}
+use Rattle.std.proofs.Common.{◌≡◌, ℕ, ◌+◌, ◌<◌, List, [], ◌∷◌, ◌++◌, length, map, take, slice_index_or, refl, sym, ap, ◌∙◌}
 use Rattle.std.proofs.lemmas.List.{map_more}
 use Rattle.std.proofs.lemmas.List.Elements.{same_from_all_zip}
-use Rattle.ci_values.specs.declared.when.AllowFailure.{AllowFailure}
-use Rattle.ci_values.specs.declared.when.AllowFailure.TheVariants.{No, Yes, ExitCodes}
-use Rattle.ci_values.specs.contracts.when.AllowFailureClone.TheImpl.{by_variants}
-use Rattle.ci_graph.specs.declared.part.Part.{Part}
-use Rattle.ci_machine.specs.declared.records.Job.{Job}
+use Rattle.ci_machine_steps.specs.Prelude.{AllowFailure, No, Yes, ExitCodes, by_variants, Job}
+use Rattle.ci_machine.specs.Prelude.{Part}
 
 same_allow : (x y : AllowFailure) → by_variants x y → y ≡ x
 same_allow No No h = refl

@@ -1,21 +1,10 @@
 -- What a prune leads to: the state without the pipeline, in which all else stands as it did.
-use Rattle.std.specs.Prelude.{◌≡◌, ℕ, true, false, not, ◌==◌, List, [], ◌∷◌, ◌++◌, map, filter, flat_map}
+use Rattle.std.proofs.Common.{◌≡◌, ℕ, true, false, not, ◌==◌, List, [], ◌∷◌, ◌++◌, map, filter, flat_map, refl, sym, ap, subst, ◌∙◌, ⊎_elim, eqb-true, eq-eqb, ne_eqb}
 use Rattle.std.specs.List.{list_any}
-use Rattle.std.proofs.Common.{refl, sym, ap, subst, ◌∙◌, ⊎_elim, eqb-true, eq-eqb, ne_eqb}
 use Rattle.std.proofs.lemmas.Bool.{both_ways, cases_Bool}
-use Rattle.ci_machine.specs.declared.records.Pipeline.{Pipeline}
-use Rattle.ci_machine.specs.declared.records.Job.{Job}
-use Rattle.ci_machine.specs.declared.records.JobVariable.{JobVariable}
-use Rattle.ci_machine.specs.declared.records.Need.{Need}
-use Rattle.ci_machine.specs.declared.records.Attempt.{Attempt}
-use Rattle.ci_machine.specs.declared.records.Trace.{Trace}
-use Rattle.ci_machine.specs.declared.change.Key.TheVariants as key
-use Rattle.ci_machine.specs.declared.change.RowChange.{RowChange}
-use Rattle.ci_machine.specs.declared.change.RowChange.TheVariants.{Remove}
-use Rattle.ci_machine.specs.State.{State, without, without_all, bytes_or_none, applied}
-use Rattle.ci_machine.specs.Statuses.{jobs_of, attempts_of}
-use Rattle.ci_machine.specs.Lookups.{trace_of}
-use Rattle.ci_machine_steps.specs.Prunes.{is_job_among, attempts_among, attempt_goes, ties_go, pipeline_goes, without_pipeline}
+use Rattle.ci_machine_steps.specs.Prelude.{Pipeline, Job, JobVariable, Need, Attempt, Trace, Key, RowChange, Remove, State, without, without_all, bytes_or_none, applied, jobs_of}
+use Rattle.ci_machine_steps.specs.Prelude.{attempts_of, trace_of, is_job_among, attempt_goes, ties_go, pipeline_goes, without_pipeline}
+use Rattle.ci_machine_steps.specs.Prunes.{attempts_among}
 use Rattle.ci_machine.proofs.Keyed.{Has, Rising, one_at, not_true, has_filter, filter_has, filter_none, filter_same}
 use Rattle.ci_machine.proofs.Tests.{any_mapped, any_has, has_any}
 use Rattle.ci_machine.proofs.Filters.{filter_implied, find_implied, all_gone, those_gone, unlike}
@@ -33,7 +22,7 @@ ties_went : (js : List Job) (s : State) → applied (flat_map ties_go js) s
 ties_went [] s = refl
 ties_went (j ∷ js) s = ties_went js (record s { job_variables = without (λ v. v.job) j.id s.job_variables; needs = without (λ w. w.job) j.id s.needs })
 
-jobs_went : (js : List Job) (s : State) → applied (map (λ j. Remove (key.Job j.id)) js) s ≡ record s { jobs = without_all (λ j. j.id) (map (λ j. j.id) js) s.jobs }
+jobs_went : (js : List Job) (s : State) → applied (map (λ j. Remove (Key.Job j.id)) js) s ≡ record s { jobs = without_all (λ j. j.id) (map (λ j. j.id) js) s.jobs }
 jobs_went [] s = refl
 jobs_went (j ∷ js) s = jobs_went js (record s { jobs = without (λ w. w.id) j.id s.jobs })
 
@@ -52,15 +41,15 @@ all_went : (p : Pipeline) (js : List Job) (mine : List Attempt) (s : State)
     → applied (pipeline_goes p js mine) s ≡ without_these p.id (map (λ j. j.id) js) (map (λ a. a.id) (attempts_among js mine)) s
 all_went p js mine s =
     let its = attempts_among js mine in
-    let jobs_and_it : List RowChange = map (λ j. Remove (key.Job j.id)) js ++ Remove (key.Pipeline p.id) ∷ [] in
+    let jobs_and_it : List RowChange = map (λ j. Remove (Key.Job j.id)) js ++ Remove (Key.Pipeline p.id) ∷ [] in
     let r : State = record s { attempts = without_all (λ a. a.id) (map (λ a. a.id) its) s.attempts; traces = without_all (λ t. t.attempt) (map (λ a. a.id) its) s.traces } in
     let t : State = record r { job_variables = without_all (λ v. v.job) (map (λ j. j.id) js) r.job_variables; needs = without_all (λ w. w.job) (map (λ j. j.id) js) r.needs } in
     applied_append (flat_map attempt_goes its) (flat_map ties_go js ++ jobs_and_it) s
     ∙ (ap (applied (flat_map ties_go js ++ jobs_and_it)) (attempts_went its s)
     ∙ (applied_append (flat_map ties_go js) jobs_and_it r
     ∙ (ap (applied jobs_and_it) (ties_went js r)
-    ∙ (applied_append (map (λ j. Remove (key.Job j.id)) js) (Remove (key.Pipeline p.id) ∷ []) t
-    ∙ ap (applied (Remove (key.Pipeline p.id) ∷ [])) (jobs_went js t)))))
+    ∙ (applied_append (map (λ j. Remove (Key.Job j.id)) js) (Remove (Key.Pipeline p.id) ∷ []) t
+    ∙ ap (applied (Remove (Key.Pipeline p.id) ∷ [])) (jobs_went js t)))))
 
 -- ---- what is left
 

@@ -1,34 +1,20 @@
 -- A job whose last attempt is live is running, by its row.
-use Rattle.std.specs.Prelude.{◌≡◌, ◌<◌, true, ◌==◌, if◌then◌else◌, List, length, Option, Some, None, option_map, slice_index_or}
-use Rattle.std.proofs.Common.{refl, sym, ap, subst, ◌∙◌, eq-eqb}
+use Rattle.std.proofs.Common.{◌≡◌, ◌<◌, true, ◌==◌, if◌then◌else◌, List, length, Option, Some, None, option_map, slice_index_or, refl, sym, ap, subst, ◌∙◌, eq-eqb}
 use Rattle.std.proofs.lemmas.Bool.{cond-true}
 use Rattle.std.proofs.lemmas.List.{get_or-map, length-map}
-use Rattle.ci_graph.specs.declared.part.Part.{Part}
-use Rattle.ci_graph.specs.JobGraph.{part_at}
-use Rattle.ci_board.specs.declared.facts.Status.{Status}
-use Rattle.ci_board.specs.declared.facts.Status.TheVariants as status
-use Rattle.ci_board.specs.declared.facts.Facts.{Facts}
-use Rattle.ci_board.specs.declared.facts.Row.{Row}
+use Rattle.ci_machine.specs.Prelude.{Part, part_at}
+use Rattle.ci_machine_steps.specs.Prelude.{Status, Facts, Row, Effect, status_by, status_of_effects, idle_status, no_facts, no_row, facts_at, statuses, effects_of, Job, Attempt}
+use Rattle.ci_machine_steps.specs.Prelude.{BoardRow, State, jobs_of, numbers_of, graph_of, facts_in, facts_of, row_for, rows_of, AreBoard, is_live, last_attempt}
 use Rattle.ci_board.specs.Standing as standing
-use Rattle.ci_board.specs.declared.facts.Effect.{Effect}
-use Rattle.ci_board.specs.Effects.{status_by, status_of_effects, idle_status}
-use Rattle.ci_board.specs.Rows.{no_facts, no_row, facts_at, row_at, statuses}
-use Rattle.ci_board.specs.Statuses.{effects_of}
-use Rattle.ci_machine.specs.declared.records.Job.{Job}
-use Rattle.ci_machine.specs.declared.records.Attempt.{Attempt}
-use Rattle.ci_machine.specs.declared.records.BoardRow.{BoardRow}
-use Rattle.ci_machine.specs.State.{State}
-use Rattle.ci_machine.specs.Statuses.{jobs_of, numbers_of, graph_of, facts_in, facts_of, row_for, rows_of, AreBoard}
-use Rattle.ci_machine.specs.Leases.{is_live}
-use Rattle.ci_machine_steps.specs.Step.{last_attempt}
+use Rattle.ci_board.specs.Prelude.{row_at}
 use Rattle.ci_machine.proofs.Keyed.{Has, filter_has, contains_from_has}
 
 -- a job runs where its last attempt is live, whatever it waits for
-running : (part : Part) (facts : Facts) (effects : List Effect) → standing.is_live facts.last ≡ true → status_of_effects part facts effects ≡ status.Running
+running : (part : Part) (facts : Facts) (effects : List Effect) → standing.is_live facts.last ≡ true → status_of_effects part facts effects ≡ Status.Running
 running part facts effects live =
     ap (λ (s : Option Status). status_by s (idle_status part facts effects))
-    (cond-true (standing.is_live facts.last) (Some status.Running)
-    (if facts.cancelled then Some status.Canceled else if facts.attempts == 0 then None else standing.after_last part facts.attempts facts.last) live)
+    (cond-true (standing.is_live facts.last) (Some Status.Running)
+    (if facts.cancelled then Some Status.Canceled else if facts.attempts == 0 then None else standing.after_last part facts.attempts facts.last) live)
 
 -- the status of a job is that of its facts, and of what its predecessors mean to it
 row_settled : (s : State) (board : List BoardRow) → AreBoard s board → (job : Job) → Has job s.jobs → (part : Part) × (effects : List Effect) × ((row_for board job.id).status ≡ status_of_effects part (facts_in s job) effects)
@@ -48,7 +34,7 @@ row_settled s board are job has =
       sym (ap (λ (r : Row). r.status) row) ∙ ((are.each job.pipeline).is k within ∙ ap (λ (f : Facts). status_of_effects part f effects) facts),
     )
 
-pub live_runs : (s : State) (board : List BoardRow) → AreBoard s board → (job : Job) → Has job s.jobs → (a : Attempt) → last_attempt s job.id ≡ Some a → is_live a ≡ true → (row_for board job.id).status ≡ status.Running
+pub live_runs : (s : State) (board : List BoardRow) → AreBoard s board → (job : Job) → Has job s.jobs → (a : Attempt) → last_attempt s job.id ≡ Some a → is_live a ≡ true → (row_for board job.id).status ≡ Status.Running
 live_runs s board are job has a last live =
     let settled = row_settled s board are job has in
     let runs : standing.is_live (facts_in s job).last ≡ true = ap (λ (o : Option Attempt). standing.is_live (option_map (λ (b : Attempt). b.state) o)) last ∙ live in

@@ -1,20 +1,10 @@
 -- What holds of the numbers of each reached state, in the words of these proofs.
-use Rattle.std.specs.Prelude.{◌≡◌, ℕ, ◌+◌, ◌<◌, ◌≤◌, true, ◌==◌, List, [], ◌∷◌, length, map, Option, Some, None, All, Contains}
+use Rattle.std.proofs.Common.{◌≡◌, ℕ, ◌+◌, ◌<◌, ◌≤◌, true, ◌==◌, List, [], ◌∷◌, length, map, Option, Some, None, All, Contains, nat_cmp, is_lt, Less, refl, sym, ap, inl, ⊎_elim}
+use Rattle.std.proofs.Common.{arith, lt-ltb, eq-eqb}
 use Rattle.std.specs.List.{last_or, AllByRecursion}
-use Rattle.std.specs.Ordering.{nat_cmp, is_lt}
 use Rattle.std.specs.List.Sorted.{IsStrictlySortedBy}
-use Rattle.std.specs.declared.cmp.Ordering.TheVariants.{Less}
-use Rattle.std.proofs.Common.{refl, sym, ap, inl, ⊎_elim, arith, lt-ltb, eq-eqb}
 use Rattle.std.proofs.lemmas.Bool.{cond-true}
-use Rattle.ci_machine.specs.declared.records.Pipeline.{Pipeline}
-use Rattle.ci_machine.specs.declared.records.Job.{Job}
-use Rattle.ci_machine.specs.declared.records.Need.{Need}
-use Rattle.ci_machine.specs.declared.records.Attempt.{Attempt}
-use Rattle.ci_machine.specs.State.{State}
-use Rattle.ci_machine.specs.Statuses.{attempts_of}
-use Rattle.ci_machine.specs.Leases.{is_live}
-use Rattle.ci_machine_steps.specs.Step.{last_attempt}
-use Rattle.ci_machine_steps.specs.Sound.{IsSound}
+use Rattle.ci_machine_steps.specs.Prelude.{Pipeline, Job, Need, Attempt, State, attempts_of, is_live, last_attempt, IsSound}
 use Rattle.ci_machine.proofs.Keyed.{Has, Rising, Below, Named, less, rising_filter, filter_has, has_from_all, named_contains}
 
 -- ---- ascending and rising

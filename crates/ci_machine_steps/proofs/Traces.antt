@@ -1,11 +1,8 @@
 -- The traces of attempts, where bytes go behind one of them.
-use Rattle.std.specs.Prelude.{◌≡◌, ◌⊎◌, ℕ, Bool, true, false, cond, ◌==◌, not, List, [], ◌∷◌, ◌++◌, find, Some, None}
-use Rattle.std.specs.Ordering.{is_eq, is_lt}
-use Rattle.std.specs.declared.cmp.Ordering.{Ordering}
-use Rattle.std.proofs.Common.{refl, sym, ap, ◌∙◌, inl, inr, ⊎_elim, eqb-true, eq-eqb}
+use Rattle.std.proofs.Common.{◌≡◌, ◌⊎◌, ℕ, Bool, true, false, cond, ◌==◌, not, List, [], ◌∷◌, ◌++◌, find, Some, None, is_eq, is_lt, Ordering, refl, sym, ap, ◌∙◌, inl, inr, ⊎_elim}
+use Rattle.std.proofs.Common.{eqb-true, eq-eqb}
 use Rattle.std.proofs.lemmas.Bool.{cond_both, cond-true, cond-false, ne_eqb}
-use Rattle.ci_machine.specs.declared.records.Trace.{Trace}
-use Rattle.ci_machine.specs.State.{trace_cmp, placed, others, bytes_or_none, trace_in, with_bytes}
+use Rattle.ci_machine_steps.specs.Prelude.{Trace, trace_cmp, placed, others, bytes_or_none, trace_in, with_bytes}
 use Rattle.ci_machine.proofs.Keyed.{Has, has_filter, has_put, different, unequal}
 use Rattle.ci_machine.proofs.Filters.{find_implied}
 

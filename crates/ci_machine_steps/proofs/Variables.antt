@@ -1,45 +1,21 @@
 -- The variables of a job, by their keys, in every state that a history leads to; and those of a grant.
-use Rattle.std.specs.Prelude.{◌≡◌, ℕ, Bool, true, false, ◌==◌, ◌||◌, not, nat_lt, codes, List, [], ◌∷◌, length, map, filter, insert, count_by, Option, Some, None}
+use Rattle.std.proofs.Common.{◌≡◌, ℕ, Bool, true, false, ◌==◌, ◌||◌, not, nat_lt, codes, List, [], ◌∷◌, length, map, filter, insert, count_by, Option, Some, None, nat_cmp, is_eq}
+use Rattle.std.proofs.Common.{is_lt, Ordering, Less, Equal, Greater, refl, sym, ap, subst, ◌∙◌, inl, inr, ⊎_elim, eqb-true}
 use Rattle.std.specs.List.{list_any, AllByRecursion}
 use Rattle.std.specs.Str.{bytes_eq}
-use Rattle.std.specs.Ordering.{nat_cmp, is_eq, is_lt, ordering_then, ordering_reverse}
-use Rattle.std.specs.declared.cmp.Ordering.{Ordering}
-use Rattle.std.specs.declared.cmp.Ordering.TheVariants.{Less, Equal, Greater}
+use Rattle.std.specs.Ordering.{ordering_then, ordering_reverse}
 use Rattle.std.specs.Cmp.Lexicographic.{slice_cmp}
 use Rattle.std.specs.Cmp.{IsTotalOrder, Equal-is}
 use Rattle.std.proofs.lemmas.Cmp.{nat_cmp_total, on_total, then_total, nat_list_cmp_total}
 use Rattle.std.specs.List.Sorted.{IsStrictlySortedBy}
-use Rattle.std.proofs.Common.{refl, sym, ap, subst, ◌∙◌, inl, inr, ⊎_elim, eqb-true}
 use Rattle.std.proofs.lemmas.Bool.{cond_both, both_ways, cases_Bool, false≢true}
 use Rattle.std.proofs.lemmas.List.Sums.{length-filter}
 use Rattle.std.proofs.lemmas.Map.Text.{is_eq-slice_cmp}
-use Rattle.ci_machine.specs.declared.records.BoardRow.{BoardRow}
-use Rattle.ci_machine.specs.declared.records.Runner.{Runner}
-use Rattle.ci_machine.specs.declared.records.Job.{Job}
-use Rattle.ci_machine.specs.declared.records.JobVariable.{JobVariable}
-use Rattle.ci_machine.specs.declared.records.QueuedJob.{QueuedJob}
-use Rattle.ci_machine.specs.declared.change.RowChange.{RowChange}
-use Rattle.ci_machine.specs.declared.change.RowChange.TheVariants.{Put, Append, Remove}
-use Rattle.ci_machine.specs.declared.change.Record.{Record}
-use Rattle.ci_machine.specs.declared.change.Record.TheVariants as row
-use Rattle.ci_machine.specs.declared.change.Key.{Key}
-use Rattle.ci_machine.specs.declared.change.Key.TheVariants as key
-use Rattle.ci_machine.specs.declared.request.Event.{Event}
-use Rattle.ci_machine.specs.declared.request.Event.TheVariants as event
-use Rattle.ci_machine.specs.declared.request.Request.TheVariants.{AddProject, AddRunner, PauseRunner, SetFile, SetVariable, DeleteVariable, SetMode, ShowMode, CreatePipeline, ShowPipeline, AskJob, UpdateJob, AppendTrace, ShowJob, ShowTrace, Read, Play, CancelJob, CancelPipeline, RetryJob, PruneOne}
-use Rattle.ci_machine.specs.declared.request.Seed.{Seed}
-use Rattle.ci_machine.specs.declared.reply.Answer.{Answer}
-use Rattle.ci_machine.specs.declared.reply.Answer.TheVariants as answer
-use Rattle.ci_machine.specs.declared.reply.Code.TheVariants.{M15}
-use Rattle.ci_values.specs.declared.limits.TheConstants.{MAX_NUMBER}
-use Rattle.ci_machine.specs.State.{State, job_variable_cmp, placed, others, put, with_record, without_record, changed, applied}
-use Rattle.ci_machine.specs.Bodies.{with_default, granted_variables}
-use Rattle.ci_machine_steps.specs.Plans.{Plan, refused, token_of}
-use Rattle.ci_machine.specs.Waiting.{groups_in}
-use Rattle.ci_machine_steps.specs.Grants.{granted, ask_job}
-use Rattle.ci_machine.specs.Eligible.{chosen}
-use Rattle.ci_machine_steps.specs.Step.{Happens, runner_with, variables_of, queue, offer, offered_variables}
-use Rattle.ci_machine_steps.specs.Laws.{is_created, is_grant, Ascend, GivesInOrder}
+use Rattle.ci_machine_steps.specs.Prelude.{BoardRow, Runner, Job, JobVariable, QueuedJob, RowChange, Put, Append, Remove, Record, Key, Event, AddProject, AddRunner, PauseRunner}
+use Rattle.ci_machine_steps.specs.Prelude.{SetFile, SetVariable, DeleteVariable, SetMode, ShowMode, CreatePipeline, ShowPipeline, AskJob, UpdateJob, AppendTrace, ShowJob}
+use Rattle.ci_machine_steps.specs.Prelude.{ShowTrace, Read, Play, CancelJob, CancelPipeline, RetryJob, PruneOne, Seed, Answer, M15, MAX_NUMBER, State, job_variable_cmp, placed}
+use Rattle.ci_machine_steps.specs.Prelude.{others, put, with_record, without_record, changed, applied, with_default, granted_variables, Plan, refused, token_of, groups_in, granted}
+use Rattle.ci_machine_steps.specs.Prelude.{ask_job, chosen, Happens, runner_with, variables_of, queue, offer, offered_variables, is_created, is_grant, Ascend, GivesInOrder}
 use Rattle.ci_machine.proofs.Keyed.{Has, has_filter, has_placed, filter_none, equal}
 
 -- each is less than those after it
@@ -154,30 +130,30 @@ granted_ascend s job attempt n r =
 -- ---- each change keeps the order
 
 recorded : (r : Record) (s : State) → Ordered job_variable_cmp s.job_variables → Ordered job_variable_cmp (with_record r s).job_variables
-recorded (row.Project p) s o = o
-recorded (row.Variable v) s o = o
-recorded (row.Runner p) s o = o
-recorded (row.Pipeline p) s o = o
-recorded (row.Job p) s o = o
-recorded (row.JobVariable v) s o = put_ordered job_variable_cmp variable_total v s.job_variables o
-recorded (row.Need n) s o = o
-recorded (row.Attempt p) s o = o
-recorded (row.Mode m) s o = o
-recorded (row.Next c n) s o = o
+recorded (Record.Project p) s o = o
+recorded (Record.Variable v) s o = o
+recorded (Record.Runner p) s o = o
+recorded (Record.Pipeline p) s o = o
+recorded (Record.Job p) s o = o
+recorded (Record.JobVariable v) s o = put_ordered job_variable_cmp variable_total v s.job_variables o
+recorded (Record.Need n) s o = o
+recorded (Record.Attempt p) s o = o
+recorded (Record.Mode m) s o = o
+recorded (Record.Next c n) s o = o
 
 removed : (k : Key) (s : State) → Ordered job_variable_cmp s.job_variables → Ordered job_variable_cmp (without_record k s).job_variables
-removed (key.Project n) s o = o
-removed (key.Variable n name) s o = o
-removed (key.Runner n) s o = o
-removed (key.Pipeline n) s o = o
-removed (key.Job n) s o = o
-removed (key.JobVariable n name) s o = filter_ordered job_variable_cmp _ s.job_variables o
-removed (key.JobVariables n) s o = filter_ordered job_variable_cmp _ s.job_variables o
-removed (key.Need n pred) s o = o
-removed (key.Needs n) s o = o
-removed (key.Attempt n) s o = o
-removed (key.Mode n name) s o = o
-removed (key.Trace n) s o = o
+removed (Key.Project n) s o = o
+removed (Key.Variable n name) s o = o
+removed (Key.Runner n) s o = o
+removed (Key.Pipeline n) s o = o
+removed (Key.Job n) s o = o
+removed (Key.JobVariable n name) s o = filter_ordered job_variable_cmp _ s.job_variables o
+removed (Key.JobVariables n) s o = filter_ordered job_variable_cmp _ s.job_variables o
+removed (Key.Need n pred) s o = o
+removed (Key.Needs n) s o = o
+removed (Key.Attempt n) s o = o
+removed (Key.Mode n name) s o = o
+removed (Key.Trace n) s o = o
 
 one_change : (c : RowChange) (s : State) → Ordered job_variable_cmp s.job_variables → Ordered job_variable_cmp (changed c s).job_variables
 one_change (Put r) s o = recorded r s o
@@ -191,7 +167,7 @@ changes_ordered (c ∷ cs) s o = changes_ordered cs (changed c s) (one_change c 
 -- ---- a grant
 
 abbrev Gives : State → Plan → Type 0
-Gives s plan = is_created plan.0.status ≡ true → GivesInOrder s (answer.Reply plan.0)
+Gives s plan = is_created plan.0.status ≡ true → GivesInOrder s (Answer.Reply plan.0)
 
 offers : (s : State) (now : ℕ) (seed : Seed) → Ordered job_variable_cmp s.job_variables → (runner : Runner) (q : Option QueuedJob) → Gives s (ask_job (Some runner) q (offered_variables s q) s.next.attempt now seed)
 offers s now seed o runner None = λ e. absurd (false≢true e)
@@ -207,26 +183,26 @@ asks s board now seed o (Some runner) = offers s now seed o runner (chosen (queu
 
 pub gives_in_order : (s : State) (board : List BoardRow) (e : Event) (now : ℕ) (seed : Seed) (a : Answer) (changes : List RowChange)
     → Ordered job_variable_cmp s.job_variables → Happens s board e now seed a changes → is_grant e a ≡ true → GivesInOrder s a
-gives_in_order s board (event.Request (AskJob token)) now seed (answer.Reply reply) changes o is g = subst (Gives s) (sym is) (asks s board now seed o (runner_with s token)) g
-gives_in_order s board (event.Request request) now seed (answer.Swept swept) changes o is g = absurd is
-gives_in_order s board event.Sweep now seed a changes o is g = absurd (false≢true g)
-gives_in_order s board (event.Request (AddProject x)) now seed (answer.Reply reply) changes o is g = absurd (false≢true g)
-gives_in_order s board (event.Request (AddRunner x)) now seed (answer.Reply reply) changes o is g = absurd (false≢true g)
-gives_in_order s board (event.Request (PauseRunner x)) now seed (answer.Reply reply) changes o is g = absurd (false≢true g)
-gives_in_order s board (event.Request (SetFile x)) now seed (answer.Reply reply) changes o is g = absurd (false≢true g)
-gives_in_order s board (event.Request (SetVariable x)) now seed (answer.Reply reply) changes o is g = absurd (false≢true g)
-gives_in_order s board (event.Request (DeleteVariable x)) now seed (answer.Reply reply) changes o is g = absurd (false≢true g)
-gives_in_order s board (event.Request (SetMode x)) now seed (answer.Reply reply) changes o is g = absurd (false≢true g)
-gives_in_order s board (event.Request (ShowMode x)) now seed (answer.Reply reply) changes o is g = absurd (false≢true g)
-gives_in_order s board (event.Request (CreatePipeline x)) now seed (answer.Reply reply) changes o is g = absurd (false≢true g)
-gives_in_order s board (event.Request (ShowPipeline x)) now seed (answer.Reply reply) changes o is g = absurd (false≢true g)
-gives_in_order s board (event.Request (UpdateJob x)) now seed (answer.Reply reply) changes o is g = absurd (false≢true g)
-gives_in_order s board (event.Request (AppendTrace x)) now seed (answer.Reply reply) changes o is g = absurd (false≢true g)
-gives_in_order s board (event.Request (ShowJob x)) now seed (answer.Reply reply) changes o is g = absurd (false≢true g)
-gives_in_order s board (event.Request (ShowTrace x)) now seed (answer.Reply reply) changes o is g = absurd (false≢true g)
-gives_in_order s board (event.Request (Read x)) now seed (answer.Reply reply) changes o is g = absurd (false≢true g)
-gives_in_order s board (event.Request (Play x)) now seed (answer.Reply reply) changes o is g = absurd (false≢true g)
-gives_in_order s board (event.Request (CancelJob x)) now seed (answer.Reply reply) changes o is g = absurd (false≢true g)
-gives_in_order s board (event.Request (CancelPipeline x)) now seed (answer.Reply reply) changes o is g = absurd (false≢true g)
-gives_in_order s board (event.Request (RetryJob x)) now seed (answer.Reply reply) changes o is g = absurd (false≢true g)
-gives_in_order s board (event.Request (PruneOne x)) now seed (answer.Reply reply) changes o is g = absurd (false≢true g)
+gives_in_order s board (Event.Request (AskJob token)) now seed (Answer.Reply reply) changes o is g = subst (Gives s) (sym is) (asks s board now seed o (runner_with s token)) g
+gives_in_order s board (Event.Request request) now seed (Answer.Swept swept) changes o is g = absurd is
+gives_in_order s board Event.Sweep now seed a changes o is g = absurd (false≢true g)
+gives_in_order s board (Event.Request (AddProject x)) now seed (Answer.Reply reply) changes o is g = absurd (false≢true g)
+gives_in_order s board (Event.Request (AddRunner x)) now seed (Answer.Reply reply) changes o is g = absurd (false≢true g)
+gives_in_order s board (Event.Request (PauseRunner x)) now seed (Answer.Reply reply) changes o is g = absurd (false≢true g)
+gives_in_order s board (Event.Request (SetFile x)) now seed (Answer.Reply reply) changes o is g = absurd (false≢true g)
+gives_in_order s board (Event.Request (SetVariable x)) now seed (Answer.Reply reply) changes o is g = absurd (false≢true g)
+gives_in_order s board (Event.Request (DeleteVariable x)) now seed (Answer.Reply reply) changes o is g = absurd (false≢true g)
+gives_in_order s board (Event.Request (SetMode x)) now seed (Answer.Reply reply) changes o is g = absurd (false≢true g)
+gives_in_order s board (Event.Request (ShowMode x)) now seed (Answer.Reply reply) changes o is g = absurd (false≢true g)
+gives_in_order s board (Event.Request (CreatePipeline x)) now seed (Answer.Reply reply) changes o is g = absurd (false≢true g)
+gives_in_order s board (Event.Request (ShowPipeline x)) now seed (Answer.Reply reply) changes o is g = absurd (false≢true g)
+gives_in_order s board (Event.Request (UpdateJob x)) now seed (Answer.Reply reply) changes o is g = absurd (false≢true g)
+gives_in_order s board (Event.Request (AppendTrace x)) now seed (Answer.Reply reply) changes o is g = absurd (false≢true g)
+gives_in_order s board (Event.Request (ShowJob x)) now seed (Answer.Reply reply) changes o is g = absurd (false≢true g)
+gives_in_order s board (Event.Request (ShowTrace x)) now seed (Answer.Reply reply) changes o is g = absurd (false≢true g)
+gives_in_order s board (Event.Request (Read x)) now seed (Answer.Reply reply) changes o is g = absurd (false≢true g)
+gives_in_order s board (Event.Request (Play x)) now seed (Answer.Reply reply) changes o is g = absurd (false≢true g)
+gives_in_order s board (Event.Request (CancelJob x)) now seed (Answer.Reply reply) changes o is g = absurd (false≢true g)
+gives_in_order s board (Event.Request (CancelPipeline x)) now seed (Answer.Reply reply) changes o is g = absurd (false≢true g)
+gives_in_order s board (Event.Request (RetryJob x)) now seed (Answer.Reply reply) changes o is g = absurd (false≢true g)
+gives_in_order s board (Event.Request (PruneOne x)) now seed (Answer.Reply reply) changes o is g = absurd (false≢true g)

@@ -1,15 +1,11 @@
 -- A user acts on a job, or on the jobs of a pipeline: the request is refused, or its reply shows the state after it.
 use Rattle.std.specs.Prelude.{◌≡◌, Bool, List, if◌then◌else◌, Result, Ok, Err}
-use Rattle.ci_board.specs.declared.facts.Status.{Status}
+use Rattle.ci_machine.specs.Prelude.{Status, State, applied, jobs_of, facts_of, rows_of, status_for, AreBoard, queued, claims_in}
 use Rattle.ci_machine.specs.declared.records.Pipeline.{Pipeline}
 use Rattle.ci_machine.specs.declared.records.Job.{Job}
 use Rattle.ci_machine.specs.declared.records.BoardRow.{BoardRow}
 use Rattle.ci_machine.specs.declared.change.RowChange.{RowChange}
 use Rattle.ci_machine.specs.declared.reply.Code.{Code}
-use Rattle.ci_machine.specs.State.{State, applied}
-use Rattle.ci_machine.specs.Statuses.{jobs_of, facts_of, rows_of, status_for, AreBoard}
-use Rattle.ci_machine.specs.Lookups.{queued}
-use Rattle.ci_machine.specs.Waiting.{claims_in}
 use Rattle.ci_machine_steps.specs.Plans.{Plan, refused}
 use Rattle.ci_machine_steps.specs.Shows.{job_shown, pipeline_shown}
 

@@ -1,30 +1,25 @@
 -- Jobs are cancelled: all of a pipeline that can be, or one.
 use Rattle.std.specs.Prelude.{◌≡◌, ℕ, Bool, true, false, ◌&&◌, ◌==◌, List, [], ◌∷◌, ◌++◌, map, filter, Result, Ok, Err}
 use Rattle.std.specs.List.{list_any}
-use Rattle.ci_values.specs.declared.attempts.AttemptState.TheVariants.{Cancelled}
-use Rattle.ci_board.specs.declared.facts.Status.{Status}
-use Rattle.ci_board.specs.declared.facts.Status.TheVariants as status
+use Rattle.ci_machine.specs.Prelude.{Cancelled, Status, State, jobs_of, status_for, is_live}
 use Rattle.ci_machine.specs.declared.records.Pipeline.{Pipeline}
 use Rattle.ci_machine.specs.declared.records.Job.{Job}
 use Rattle.ci_machine.specs.declared.records.Attempt.{Attempt}
 use Rattle.ci_machine.specs.declared.records.BoardRow.{BoardRow}
 use Rattle.ci_machine.specs.declared.change.RowChange.{RowChange}
 use Rattle.ci_machine.specs.declared.change.RowChange.TheVariants.{Put}
-use Rattle.ci_machine.specs.declared.change.Record.TheVariants as row
+use Rattle.ci_machine.specs.declared.change.Record.{Record}
 use Rattle.ci_machine.specs.declared.reply.Code.{Code}
 use Rattle.ci_machine.specs.declared.reply.Code.TheVariants.{M12}
-use Rattle.ci_machine.specs.State.{State}
-use Rattle.ci_machine.specs.Statuses.{jobs_of, status_for}
-use Rattle.ci_machine.specs.Leases.{is_live}
 use Rattle.ci_machine_steps.specs.Plans.{Plan, refused}
 use Rattle.ci_machine_steps.specs.Acts.{ShowsPipelineAfter}
 
 -- a job of this status can be cancelled
 abbrev pub is_cancellable : Status → Bool
-is_cancellable status.Created = true
-is_cancellable status.Pending = true
-is_cancellable status.Running = true
-is_cancellable status.Manual = true
+is_cancellable Status.Created = true
+is_cancellable Status.Pending = true
+is_cancellable Status.Running = true
+is_cancellable Status.Manual = true
 is_cancellable _ = false
 
 -- The jobs of a pipeline that can be cancelled: one set, by the statuses of the state before. Cancelled one after the other they
@@ -44,7 +39,7 @@ cancelled_attempt a = record a { state = Cancelled }
 
 -- each of these jobs is marked as cancelled, and each lease on one of them, of these attempts, ends as cancelled
 abbrev pub cancel : List Attempt → List Job → List RowChange
-cancel attempts jobs = map (λ j. Put (row.Job (cancelled_job j))) jobs ++ map (λ a. Put (row.Attempt (cancelled_attempt a))) (filter (is_lease_on jobs) attempts)
+cancel attempts jobs = map (λ j. Put (Record.Job (cancelled_job j))) jobs ++ map (λ a. Put (Record.Attempt (cancelled_attempt a))) (filter (is_lease_on jobs) attempts)
 
 -- these jobs of the pipeline are cancelled, if there are any
 abbrev pub CancelsSome : State → Pipeline → List Job → Plan → Type 0

@@ -1,31 +1,25 @@
 -- What a CI file says; and a project's file is to be this text.
 use Rattle.std.specs.Prelude.{◌≡◌, ℕ, List, [], ◌∷◌, length, Some, Result, Ok, Err}
 use Rattle.serde_json.specs.Written.{compact_text}
-use Rattle.ci_yaml_lines.specs.declared.code.Code.{Code}
+use Rattle.ci_config.specs.Prelude.{Code, Value}
 use Rattle.ci_yaml_lines.specs.Least.{number_of}
-use Rattle.ci_yaml_lines.specs.Tree.{Value}
-use Rattle.ci_yaml.specs.Document.{HasTree, IsFault}
-use Rattle.ci_expr.specs.declared.fault.ExprCode.{ExprCode}
-use Rattle.ci_expr.specs.declared.fault.ExprCode.TheVariants.{X1, X2, X3, X4, X5, X6, X7, X8}
-use Rattle.ci_config.specs.Config.{Config}
-use Rattle.ci_config.specs.Fault.{Fault, K2, K13, number}
-use Rattle.ci_config.specs.Meaning.{Means}
+use Rattle.ci_yaml.specs.Prelude.{HasTree, IsFault}
+use Rattle.ci_graph_layout.specs.Prelude.{ExprCode, X1, X2, X3, X4, X5, X6, X7, X8, Config, Fault, K2, K13, number, Means}
 use Rattle.ci_machine.specs.declared.records.Project.{Project}
 use Rattle.ci_machine.specs.declared.change.RowChange.TheVariants.{Put}
-use Rattle.ci_machine.specs.declared.change.Record.TheVariants as row
+use Rattle.ci_machine.specs.declared.change.Record.{Record}
 use Rattle.ci_machine.specs.declared.reply.Code as reply
 use Rattle.ci_machine.specs.declared.reply.FaultCode.TheVariants.{K, X, Y}
 use Rattle.ci_machine.specs.declared.reply.Detail.{Detail}
-use Rattle.ci_machine.specs.declared.reply.Detail.TheVariants as detail
 use Rattle.ci_machine.specs.declared.reply.Body.TheVariants.{Json}
-use Rattle.ci_machine.specs.Bodies.{file_data}
+use Rattle.ci_machine.specs.Prelude.{file_data}
 use Rattle.ci_machine_steps.specs.Plans.{Plan, refused, faulted, fine}
 
 -- ---- faults, as replies name them
 
 -- of lines: `Y5 line 3`
 abbrev pub line_fault : Code → ℕ → Detail
-line_fault code line = detail.Line (Y (number_of code)) line
+line_fault code line = Detail.Line (Y (number_of code)) line
 
 abbrev pub expression_number : ExprCode → ℕ
 expression_number X1 = 1
@@ -39,9 +33,9 @@ expression_number X8 = 8
 
 -- of keywords: `K6`, `K2 image`, `K13 X4`
 abbrev pub keyword_fault : Fault → Detail
-keyword_fault (K2 name) = detail.Keyword (K 2) name
-keyword_fault (K13 code) = detail.Expression (K 13) (X (expression_number code))
-keyword_fault fault = detail.Code (K (number fault))
+keyword_fault (K2 name) = Detail.Keyword (K 2) name
+keyword_fault (K13 code) = Detail.Expression (K 13) (X (expression_number code))
+keyword_fault fault = Detail.Code (K (number fault))
 
 -- ---- what a file says
 
@@ -56,7 +50,7 @@ pub data IsRead (text : List ℕ) : Result Config Detail → Type 0 where
 
 -- the project has this file, and its reply tells how many of its jobs aren't hidden
 abbrev pub file_set : Project → List ℕ → Config → Plan
-file_set project text c = (fine (Json (compact_text (file_data (length c.jobs)))), Put (row.Project (record project { file = Some text })) ∷ [])
+file_set project text c = (fine (Json (compact_text (file_data (length c.jobs)))), Put (Record.Project (record project { file = Some text })) ∷ [])
 
 abbrev pub set_file : Project → List ℕ → Result Config Detail → Plan
 set_file project text (Ok c) = file_set project text c

@@ -1,18 +1,15 @@
 -- A runner asks for a job.
 use Rattle.std.specs.Prelude.{ℕ, List, [], if◌then◌else◌, nat_lt, Option, Some, None, codes}
 use Rattle.serde_json.specs.Written.{compact_text}
-use Rattle.ci_values.specs.declared.limits.TheConstants.{MAX_NUMBER}
-use Rattle.ci_values.specs.declared.attempts.AttemptState.TheVariants.{Live}
+use Rattle.ci_machine.specs.Prelude.{MAX_NUMBER, Live, plain, grant_data}
 use Rattle.ci_machine.specs.declared.records.Runner.{Runner}
 use Rattle.ci_machine.specs.declared.records.JobVariable.{JobVariable}
 use Rattle.ci_machine.specs.declared.records.QueuedJob.{QueuedJob}
-use Rattle.ci_machine.specs.declared.change.Record.TheVariants as row
-use Rattle.ci_machine.specs.declared.change.Counter.TheVariants as counter
+use Rattle.ci_machine.specs.declared.change.Record.{Record}
+use Rattle.ci_machine.specs.declared.change.Counter.{Counter}
 use Rattle.ci_machine.specs.declared.request.Seed.{Seed}
 use Rattle.ci_machine.specs.declared.reply.Code.TheVariants.{M4, M15}
 use Rattle.ci_machine.specs.declared.reply.HttpStatus.TheVariants.{NoContent}
-use Rattle.ci_machine.specs.Reply.{plain}
-use Rattle.ci_machine.specs.Bodies.{grant_data}
 use Rattle.ci_machine_steps.specs.Plans.{Plan, refused, created, token_of, numbered}
 
 -- no runner has the token
@@ -27,7 +24,7 @@ abbrev pub granted : Runner → QueuedJob → List JobVariable → ℕ → ℕ �
 granted runner q variables id now seed =
     let token = token_of (codes "j") id seed in (
       created (compact_text (grant_data id token q variables)),
-      numbered (row.Attempt (record { id = id; job = q.job.id; runner = runner.id; token = token; granted = now; seen = now; state = Live })) counter.Attempt id,
+      numbered (Record.Attempt (record { id = id; job = q.job.id; runner = runner.id; token = token; granted = now; seen = now; state = Live })) Counter.Attempt id,
     )
 
 -- the runner is offered this job with its variables: an attempt is made, with this next number

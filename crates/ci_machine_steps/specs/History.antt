@@ -3,7 +3,7 @@ use Rattle.std.specs.Prelude.{◌≡◌, ℕ, List, [], ◌∷◌}
 use Rattle.ci_machine.specs.declared.request.Event.{Event}
 use Rattle.ci_machine.specs.declared.request.Seed.{Seed}
 use Rattle.ci_machine.specs.declared.reply.Answer.{Answer}
-use Rattle.ci_machine.specs.State.{State, empty}
+use Rattle.ci_machine.specs.Prelude.{State, empty}
 use Rattle.ci_machine_steps.specs.Step.{Step}
 
 -- one line of a history: what happened, in which state, and what was answered

@@ -5,8 +5,7 @@ use Rattle.std.specs.Cmp.Lexicographic.{slice_cmp}
 use Rattle.std.specs.List.Sorted.{IsStrictlySortedBy}
 use Rattle.serde_json.specs.Written.{compact_text}
 use Rattle.ci_config.specs.Config as config
-use Rattle.ci_config.specs.Config.{Config}
-use Rattle.ci_graph_layout.specs.Inclusion.{IncludedJob, included}
+use Rattle.ci_graph_layout.specs.Prelude.{Config, IncludedJob, included}
 use Rattle.ci_machine.specs.declared.records.Project.{Project}
 use Rattle.ci_machine.specs.declared.records.Runner.{Runner}
 use Rattle.ci_machine.specs.declared.records.Pipeline.{Pipeline}
@@ -15,43 +14,29 @@ use Rattle.ci_machine.specs.declared.records.JobVariable.{JobVariable}
 use Rattle.ci_machine.specs.declared.records.QueuedJob.{QueuedJob}
 use Rattle.ci_machine.specs.declared.records.Attempt.{Attempt}
 use Rattle.ci_machine.specs.declared.request.Event.{Event}
-use Rattle.ci_machine.specs.declared.request.Event.TheVariants as event
 use Rattle.ci_machine.specs.declared.request.NewPipeline.{NewPipeline}
 use Rattle.ci_machine.specs.declared.request.Request.TheVariants.{CreatePipeline, AskJob, AppendTrace, PruneOne}
 use Rattle.ci_machine.specs.declared.reply.Answer.{Answer}
-use Rattle.ci_machine.specs.declared.reply.Answer.TheVariants as answer
 use Rattle.ci_machine.specs.declared.reply.Reply.{Reply}
 use Rattle.ci_machine.specs.declared.reply.HttpStatus.{HttpStatus}
 use Rattle.ci_machine.specs.declared.reply.HttpStatus.TheVariants.{Created, Accepted, NoContent}
 use Rattle.ci_machine.specs.declared.reply.Swept.{Swept}
-use Rattle.ci_machine.specs.declared.reply.Swept.TheVariants as swept
-use Rattle.ci_values.specs.declared.attempts.AttemptState.TheVariants.{Live}
-use Rattle.ci_values.specs.declared.attempts.Cause.{Cause}
-use Rattle.ci_machine.specs.Leases.{is_live, is_over, cause_of}
-use Rattle.ci_machine.specs.Redundant.{is_redundant}
-use Rattle.ci_machine.specs.Indexes.{is_open_in}
-use Rattle.ci_machine.specs.Reply.{plain}
-use Rattle.ci_machine.specs.Eligible.{is_eligible}
+use Rattle.ci_machine.specs.Prelude.{Live, Cause, is_live, is_over, cause_of, is_redundant, is_open_in, plain, is_eligible, State, AreBoard, grant_data, granted_variables}
+use Rattle.ci_machine.specs.Prelude.{is_in_group, groups_in, project_with, project_variables, is_pending, queued, trace_of, lease_of, variables_of, with_status, was_tried}
 use Rattle.ci_machine.specs.declared.records.BoardRow.{BoardRow}
-use Rattle.ci_machine.specs.State.{State}
-use Rattle.ci_machine.specs.Statuses.{AreBoard}
-use Rattle.ci_machine.specs.Bodies.{grant_data, granted_variables}
 use Rattle.ci_machine_steps.specs.Plans.{created, asked_project}
 use Rattle.ci_machine_steps.specs.Files.{IsRead}
 use Rattle.ci_machine_steps.specs.Pipelines.{given_by, new_job}
 use Rattle.ci_machine_steps.specs.Prunes.{pruned_reply}
-use Rattle.ci_machine.specs.Holders.{is_in_group}
-use Rattle.ci_machine.specs.Waiting.{groups_in}
-use Rattle.ci_machine_steps.specs.Step.{project_with, project_variables, is_pending, queued, trace_of, lease_of, variables_of, with_status, was_tried}
 use Rattle.ci_machine_steps.specs.History.{Past}
 
 -- the answer is a refusal
 abbrev pub IsRefusal : Answer → Type 0
-IsRefusal (answer.Reply reply) = IsSome reply.code
-IsRefusal (answer.Swept (swept.Refused code)) = Unit {0}
-IsRefusal (answer.Swept (swept.Ended attempt cause)) = ⊥
-IsRefusal (answer.Swept (swept.Cancelled pipeline)) = ⊥
-IsRefusal (answer.Swept swept.Nothing) = ⊥
+IsRefusal (Answer.Reply reply) = IsSome reply.code
+IsRefusal (Answer.Swept (Swept.Refused code)) = Unit {0}
+IsRefusal (Answer.Swept (Swept.Ended attempt cause)) = ⊥
+IsRefusal (Answer.Swept (Swept.Cancelled pipeline)) = ⊥
+IsRefusal (Answer.Swept Swept.Nothing) = ⊥
 
 -- each job has at most one live attempt
 abbrev pub OneLease : State → Type 0
@@ -67,7 +52,7 @@ is_created Created = true
 is_created _ = false
 
 abbrev pub is_grant : Event → Answer → Bool
-is_grant (event.Request (AskJob token)) (answer.Reply reply) = is_created reply.status
+is_grant (Event.Request (AskJob token)) (Answer.Reply reply) = is_created reply.status
 is_grant _ _ = false
 
 abbrev pub grants : ℕ → Past → Bool
@@ -102,9 +87,9 @@ attempt_for_good a = record a { seen = 0; state = Live }
 -- rules, and has it as they say.
 pub record IsMadeBy (line : Past) (job : Job) : Type 0 where
   pub new : NewPipeline
-  pub asked : line.event ≡ event.Request (CreatePipeline new)
+  pub asked : line.event ≡ Event.Request (CreatePipeline new)
   pub reply : Reply
-  pub answered : line.answer ≡ answer.Reply reply
+  pub answered : line.answer ≡ Answer.Reply reply
   pub made : is_created reply.status ≡ true
   pub drawn : job.pipeline ≡ line.before.next.pipeline
   pub project : Project
@@ -133,7 +118,7 @@ pub record WasGranted (h : List Past) (a : Attempt) : Type 0 where
   pub its_runner : runner.id ≡ a.runner
   pub its_job : job.id ≡ a.job
   pub eligible : IsLeastEligible line.before runner job
-  pub asked : line.event ≡ event.Request (AskJob runner.token)
+  pub asked : line.event ≡ Event.Request (AskJob runner.token)
   pub was_included : WasIncluded h job
 
 abbrev pub is_accepted : HttpStatus → Bool
@@ -142,7 +127,7 @@ is_accepted _ = false
 
 -- the bytes that a runner sent for the trace of the attempt n, where they were accepted
 abbrev pub accepted_bytes : ℕ → Event → Answer → List ℕ
-accepted_bytes n (event.Request (AppendTrace part)) (answer.Reply reply) = if is_accepted reply.status && (part.attempt == n) then part.bytes else []
+accepted_bytes n (Event.Request (AppendTrace part)) (Answer.Reply reply) = if is_accepted reply.status && (part.attempt == n) then part.bytes else []
 accepted_bytes n _ _ = []
 
 -- all the accepted bytes of the attempt n, in the order of the history, whose newest line stands first
@@ -156,7 +141,7 @@ IsTraced h s a = trace_of s a.id ≡ all_accepted a.id h
 
 -- the line pruned the pipeline with this number
 abbrev pub Prunes : Past → ℕ → Type 0
-Prunes line n = (before : ℕ) × (line.event ≡ event.Request (PruneOne before)) × (line.answer ≡ answer.Reply (pruned_reply n))
+Prunes line n = (before : ℕ) × (line.event ≡ Event.Request (PruneOne before)) × (line.answer ≡ Answer.Reply (pruned_reply n))
 
 -- a line of the history pruned the pipeline with this number
 abbrev pub WasPruned : List Past → ℕ → Type 0
@@ -231,15 +216,15 @@ pub record NoneIsRedundant (s : State) : Type 0 where
 -- a sweep ended the due attempt of least number; where there was none, it cancelled the redundant pipeline of least number; or there was none
 -- of either
 abbrev pub SweepsLeast : State → ℕ → Swept → Type 0
-SweepsLeast s now (swept.Ended n cause) = IsLeastDue s now n cause
-SweepsLeast s now (swept.Cancelled n) = NoneIsDue s now × IsLeastRedundant s n
-SweepsLeast s now swept.Nothing = NoneIsDue s now × NoneIsRedundant s
-SweepsLeast s now (swept.Refused code) = ⊥
+SweepsLeast s now (Swept.Ended n cause) = IsLeastDue s now n cause
+SweepsLeast s now (Swept.Cancelled n) = NoneIsDue s now × IsLeastRedundant s n
+SweepsLeast s now Swept.Nothing = NoneIsDue s now × NoneIsRedundant s
+SweepsLeast s now (Swept.Refused code) = ⊥
 
 abbrev pub IsSweptBy : State → ℕ → Event → Answer → Type 0
-IsSweptBy s now event.Sweep (answer.Swept ended) = SweepsLeast s now ended
-IsSweptBy s now event.Sweep (answer.Reply reply) = ⊥
-IsSweptBy s now (event.Request request) a = ⊤
+IsSweptBy s now Event.Sweep (Answer.Swept ended) = SweepsLeast s now ended
+IsSweptBy s now Event.Sweep (Answer.Reply reply) = ⊥
+IsSweptBy s now (Event.Request request) a = ⊤
 
 -- the pipeline n is the finished one of least number that was made before the moment
 pub record IsLeastPrunable (s : State) (before n : ℕ) : Type 0 where
@@ -260,9 +245,9 @@ pub record NoneIsPrunable (s : State) (before : ℕ) : Type 0 where
 
 -- a request to prune pruned the finished pipeline of least number that was made before its moment, or there was none
 abbrev pub IsPrunedBy : State → Event → Answer → Type 0
-IsPrunedBy s (event.Request (PruneOne before)) (answer.Reply reply) =
+IsPrunedBy s (Event.Request (PruneOne before)) (Answer.Reply reply) =
     ((n : ℕ) × (reply ≡ pruned_reply n) × IsLeastPrunable s before n) ⊎ ((reply ≡ plain NoContent) × NoneIsPrunable s before)
-IsPrunedBy s (event.Request (PruneOne before)) (answer.Swept ended) = ⊥
+IsPrunedBy s (Event.Request (PruneOne before)) (Answer.Swept ended) = ⊥
 IsPrunedBy s _ a = ⊤
 
 -- the keys of the variables ascend by their bytes, and differ
@@ -273,7 +258,7 @@ Ascend vs = IsStrictlySortedBy (slice_cmp nat_cmp) (map (λ v. v.key) vs)
 abbrev pub GivesInOrder : State → Answer → Type 0
 GivesInOrder s a =
     (q : QueuedJob) × (token : List ℕ)
-    × (a ≡ answer.Reply (created (compact_text (grant_data s.next.attempt token q (variables_of s q.job.id)))))
+    × (a ≡ Answer.Reply (created (compact_text (grant_data s.next.attempt token q (variables_of s q.job.id)))))
     × Ascend (granted_variables q.job s.next.attempt (variables_of s q.job.id))
 
 -- what holds of each state that a history leads to

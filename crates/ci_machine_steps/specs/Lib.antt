@@ -21,3 +21,4 @@ pub mod History
 pub mod Laws
 pub mod Sound
 pub mod OneBoard
+pub mod Prelude

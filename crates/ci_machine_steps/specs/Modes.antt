@@ -5,13 +5,13 @@ use Rattle.ci_machine.specs.declared.records.Project.{Project}
 use Rattle.ci_machine.specs.declared.records.GroupOrder.{GroupOrder}
 use Rattle.ci_machine.specs.declared.change.RowChange.{RowChange}
 use Rattle.ci_machine.specs.declared.change.RowChange.TheVariants.{Put, Remove}
-use Rattle.ci_machine.specs.declared.change.Record.TheVariants as row
-use Rattle.ci_machine.specs.declared.change.Key.TheVariants as key
+use Rattle.ci_machine.specs.declared.change.Record.{Record}
+use Rattle.ci_machine.specs.declared.change.Key.{Key}
 use Rattle.ci_machine.specs.declared.request.NewMode.{NewMode}
 use Rattle.ci_machine.specs.declared.reply.Body.TheVariants.{Json}
 use Rattle.ci_machine.specs.declared.reply.Code.{Code}
 use Rattle.ci_machine.specs.declared.reply.Reply.{Reply}
-use Rattle.ci_machine.specs.Bodies.{mode_data}
+use Rattle.ci_machine.specs.Prelude.{mode_data}
 use Rattle.ci_machine_steps.specs.Plans.{Plan, refused, fine}
 
 -- the resource group is told with its process mode
@@ -20,8 +20,8 @@ mode_told group order = fine (Json (compact_text (mode_data group order)))
 
 -- a group that has an order has a record of it, and one that is unordered has none
 abbrev pub mode_change : ℕ → List ℕ → Option GroupOrder → RowChange
-mode_change project group None = Remove (key.Mode project group)
-mode_change project group (Some order) = Put (row.Mode (record { project = project; group = group; order = order }))
+mode_change project group None = Remove (Key.Mode project group)
+mode_change project group (Some order) = Put (Record.Mode (record { project = project; group = group; order = order }))
 
 -- a resource group of the project that was asked for, if it was, is to have a process mode
 abbrev pub set_mode : Result Project Code → NewMode → Plan

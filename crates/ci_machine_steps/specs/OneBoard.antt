@@ -1,15 +1,10 @@
 -- The statuses of a state's jobs are one assignment: within a pipeline no job waits for itself, by way of whatever others.
 use Rattle.std.specs.Prelude.{◌≡◌, ℕ, ◌<◌, true, List, [], ◌∷◌, length, filter, All, Contains}
-use Rattle.ci_graph.specs.Pairs.{AreWithin, IsAcyclic}
-use Rattle.ci_board.specs.declared.facts.Status.{Status}
-use Rattle.ci_board.specs.Statuses.{IsAssignment}
+use Rattle.ci_machine.specs.Prelude.{AreWithin, IsAcyclic, Status, IsAssignment, State, jobs_of, pairs_of, graph_of, facts_of, AreBoard, is_pending}
 use Rattle.ci_machine.specs.declared.records.Job.{Job}
 use Rattle.ci_machine.specs.declared.records.Need.{Need}
 use Rattle.ci_machine.specs.declared.records.Attempt.{Attempt}
 use Rattle.ci_machine.specs.declared.records.BoardRow.{BoardRow}
-use Rattle.ci_machine.specs.State.{State}
-use Rattle.ci_machine.specs.Statuses.{jobs_of, pairs_of, graph_of, facts_of, AreBoard}
-use Rattle.ci_machine_steps.specs.Step.{is_pending}
 use Rattle.ci_machine_steps.specs.History.{Past}
 use Rattle.ci_machine_steps.specs.Laws.{grants}
 

@@ -7,17 +7,9 @@ use Rattle.std.specs.Ordering.{nat_cmp}
 use Rattle.std.specs.Cmp.Lexicographic.{slice_cmp}
 use Rattle.std.specs.Str.{bytes_eq}
 use Rattle.serde_json.specs.Written.{compact_text}
-use Rattle.ci_values.specs.Names.{is_name}
-use Rattle.ci_values.specs.declared.limits.TheConstants.{MAX_NUMBER}
-use Rattle.ci_values.specs.Layers.{Variables}
-use Rattle.ci_values.specs.VariableName.{is_variable_name}
-use Rattle.ci_config.specs.Config.{Config}
-use Rattle.ci_config.specs.declared.limits.TheConstants.{MAX_VARIABLES}
-use Rattle.ci_board.specs.declared.facts.Row.{Row}
-use Rattle.ci_board.specs.Rows.{AreRows, no_facts}
-use Rattle.ci_graph_layout.specs.Inclusion.{Given, IncludedJob, layered}
-use Rattle.ci_graph_layout.specs.Parts.{job_part}
-use Rattle.ci_graph_layout.specs.Fault.{Plans}
+use Rattle.ci_machine.specs.Prelude.{is_name, MAX_NUMBER, Variables, is_variable_name, Row, AreRows, no_facts, State, applied, put, need_cmp, graph_by, rows_of, AreBoard}
+use Rattle.ci_machine.specs.Prelude.{claims_in, source_text, pipeline_data}
+use Rattle.ci_graph_layout.specs.Prelude.{Config, MAX_VARIABLES, Given, IncludedJob, layered, job_part, Plans}
 use Rattle.ci_graph_layout.specs.Fault as layout
 use Rattle.ci_graph_layout.specs.declared.fault.GraphCode.{GraphCode}
 use Rattle.ci_graph_layout.specs.declared.fault.GraphCode.TheVariants.{G1, G2, G3, G4, G5}
@@ -34,20 +26,15 @@ use Rattle.ci_machine.specs.declared.records.Need.{Need}
 use Rattle.ci_machine.specs.declared.records.Claim.{Claim}
 use Rattle.ci_machine.specs.declared.change.RowChange.{RowChange}
 use Rattle.ci_machine.specs.declared.change.RowChange.TheVariants.{Put}
-use Rattle.ci_machine.specs.declared.change.Record.TheVariants as row
-use Rattle.ci_machine.specs.declared.change.Counter.TheVariants as counter
+use Rattle.ci_machine.specs.declared.change.Record.{Record}
+use Rattle.ci_machine.specs.declared.change.Counter.{Counter}
 use Rattle.ci_machine.specs.declared.request.PipelineVariable.{PipelineVariable}
 use Rattle.ci_machine.specs.declared.request.NewPipeline.{NewPipeline}
 use Rattle.ci_machine.specs.declared.reply.Code.{Code}
 use Rattle.ci_machine.specs.declared.reply.Code.TheVariants.{M13, M15}
 use Rattle.ci_machine.specs.declared.reply.FaultCode.TheVariants.{G, K}
 use Rattle.ci_machine.specs.declared.reply.Detail.{Detail}
-use Rattle.ci_machine.specs.declared.reply.Detail.TheVariants as detail
 use Rattle.ci_machine.specs.declared.records.BoardRow.{BoardRow}
-use Rattle.ci_machine.specs.State.{State, applied, put, need_cmp}
-use Rattle.ci_machine.specs.Statuses.{graph_by, rows_of, AreBoard}
-use Rattle.ci_machine.specs.Waiting.{claims_in}
-use Rattle.ci_machine.specs.Bodies.{source_text, pipeline_data}
 use Rattle.ci_machine_steps.specs.Plans.{Plan, refused, faulted, created}
 use Rattle.ci_machine_steps.specs.Files.{IsRead}
 
@@ -64,9 +51,9 @@ file_or_none (Some text) = Ok text
 
 abbrev pub file_for : Project → NewPipeline → Result (List ℕ) Plan
 file_for project new =
-    if not (is_name new.git_ref) then Err (faulted (detail.Code (K 16)))
-    else if nat_lt MAX_VARIABLES (length new.variables) then Err (faulted (detail.Code (K 11)))
-    else if not (have_names new.variables) then Err (faulted (detail.Code (K 12)))
+    if not (is_name new.git_ref) then Err (faulted (Detail.Code (K 16)))
+    else if nat_lt MAX_VARIABLES (length new.variables) then Err (faulted (Detail.Code (K 11)))
+    else if not (have_names new.variables) then Err (faulted (Detail.Code (K 12)))
     else file_or_none project.file
 
 -- the file by which a pipeline is to be made, of the project that was asked for, if it was; or what refuses it
@@ -96,11 +83,11 @@ abbrev pub given_by : NewPipeline → List Variable → Given
 given_by new vs = record { pipeline = map (λ v. (v.key, v.value)) new.variables; project = map (λ v. (v.key, v.value)) vs; predefined = predefined new }
 
 abbrev pub graph_fault : GraphCode → Detail
-graph_fault G1 = detail.Code (G 1)
-graph_fault G2 = detail.Code (G 2)
-graph_fault G3 = detail.Code (G 3)
-graph_fault G4 = detail.Code (G 4)
-graph_fault G5 = detail.Code (G 5)
+graph_fault G1 = Detail.Code (G 1)
+graph_fault G2 = Detail.Code (G 2)
+graph_fault G3 = Detail.Code (G 3)
+graph_fault G4 = Detail.Code (G 4)
+graph_fault G5 = Detail.Code (G 5)
 
 -- what a file configures, and the jobs that a pipeline has of it, with the pairs of them
 pub record Layout : Type 0 where
@@ -193,10 +180,10 @@ creation id first new given now laid = record {
 
 abbrev pub creation_changes : ℕ → Creation → List RowChange
 creation_changes first made =
-    Put (row.Pipeline made.pipeline)
-    ∷ Put (row.Next counter.Pipeline (made.pipeline.id + 1))
-    ∷ Put (row.Next counter.Job (first + length made.jobs))
-    ∷ (map (λ j. Put (row.Job j)) made.jobs ++ (map (λ v. Put (row.JobVariable v)) made.variables ++ map (λ w. Put (row.Need w)) made.needs))
+    Put (Record.Pipeline made.pipeline)
+    ∷ Put (Record.Next Counter.Pipeline (made.pipeline.id + 1))
+    ∷ Put (Record.Next Counter.Job (first + length made.jobs))
+    ∷ (map (λ j. Put (Record.Job j)) made.jobs ++ (map (λ v. Put (Record.JobVariable v)) made.variables ++ map (λ w. Put (Record.Need w)) made.needs))
 
 -- The rows of jobs with these needs, of which none was tried.
 pub record AreFirstRows (jobs : List Job) (needs : List Need) (rows : List Row) : Type 0 where

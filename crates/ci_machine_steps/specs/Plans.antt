@@ -7,7 +7,6 @@ use Rattle.ci_machine.specs.declared.records.Project.{Project}
 use Rattle.ci_machine.specs.declared.change.RowChange.{RowChange}
 use Rattle.ci_machine.specs.declared.change.RowChange.TheVariants.{Put}
 use Rattle.ci_machine.specs.declared.change.Record.{Record}
-use Rattle.ci_machine.specs.declared.change.Record.TheVariants as row
 use Rattle.ci_machine.specs.declared.change.Counter.{Counter}
 use Rattle.ci_machine.specs.declared.request.Seed.{Seed}
 use Rattle.ci_machine.specs.declared.reply.Code.{Code}
@@ -17,8 +16,7 @@ use Rattle.ci_machine.specs.declared.reply.HttpStatus.TheVariants.{Fine, Created
 use Rattle.ci_machine.specs.declared.reply.Body.{Body}
 use Rattle.ci_machine.specs.declared.reply.Body.TheVariants.{Json}
 use Rattle.ci_machine.specs.declared.reply.Reply.{Reply}
-use Rattle.ci_machine.specs.Reply.{plain, refusal}
-use Rattle.ci_machine.specs.Bodies.{fault_data}
+use Rattle.ci_machine.specs.Prelude.{plain, refusal, fault_data}
 
 abbrev pub Plan : Type 0
 Plan = Reply × List RowChange
@@ -48,4 +46,4 @@ token_of letter n seed = letter ++ (decimal n ++ (codes "-" ++ encode_lower seed
 
 -- a new record with this number, and the number that comes next
 abbrev pub numbered : Record → Counter → ℕ → List RowChange
-numbered new counter n = Put new ∷ Put (row.Next counter (n + 1)) ∷ []
+numbered new counter n = Put new ∷ Put (Record.Next counter (n + 1)) ∷ []

@@ -6,17 +6,13 @@ use Rattle.ci_machine.specs.declared.records.Pipeline.{Pipeline}
 use Rattle.ci_machine.specs.declared.records.Job.{Job}
 use Rattle.ci_machine.specs.declared.records.Attempt.{Attempt}
 use Rattle.ci_machine.specs.declared.records.BoardRow.{BoardRow}
-use Rattle.ci_machine.specs.declared.change.Key.TheVariants as key
+use Rattle.ci_machine.specs.declared.change.Key.{Key}
 use Rattle.ci_machine.specs.declared.change.RowChange.{RowChange}
 use Rattle.ci_machine.specs.declared.change.RowChange.TheVariants.{Remove}
 use Rattle.ci_machine.specs.declared.reply.HttpStatus.TheVariants.{NoContent}
 use Rattle.ci_machine.specs.declared.reply.Body.TheVariants.{Json}
 use Rattle.ci_machine.specs.declared.reply.Reply.{Reply}
-use Rattle.ci_machine.specs.Bodies.{pruned_data}
-use Rattle.ci_machine.specs.Reply.{plain}
-use Rattle.ci_machine.specs.State.{State}
-use Rattle.ci_machine.specs.Statuses.{jobs_of}
-use Rattle.ci_machine.specs.Indexes.{is_open_in}
+use Rattle.ci_machine.specs.Prelude.{pruned_data, plain, State, jobs_of, is_open_in}
 use Rattle.ci_machine_steps.specs.Plans.{Plan, fine}
 
 -- ---- which one goes
@@ -40,18 +36,18 @@ abbrev pub attempts_among : List Job → List Attempt → List Attempt
 attempts_among jobs attempts = filter (λ a. is_job_among jobs a.job) attempts
 
 abbrev pub attempt_goes : Attempt → List RowChange
-attempt_goes a = Remove (key.Trace a.id) ∷ Remove (key.Attempt a.id) ∷ []
+attempt_goes a = Remove (Key.Trace a.id) ∷ Remove (Key.Attempt a.id) ∷ []
 
 abbrev pub ties_go : Job → List RowChange
-ties_go j = Remove (key.JobVariables j.id) ∷ Remove (key.Needs j.id) ∷ []
+ties_go j = Remove (Key.JobVariables j.id) ∷ Remove (Key.Needs j.id) ∷ []
 
 -- These jobs of the pipeline go, with those of the attempts that are theirs, and then the pipeline. Nothing goes before what names it.
 abbrev pub pipeline_goes : Pipeline → List Job → List Attempt → List RowChange
 pipeline_goes p jobs attempts =
     flat_map attempt_goes (attempts_among jobs attempts)
     ++ (flat_map ties_go jobs
-    ++ (map (λ j. Remove (key.Job j.id)) jobs
-    ++ Remove (key.Pipeline p.id) ∷ []))
+    ++ (map (λ j. Remove (Key.Job j.id)) jobs
+    ++ Remove (Key.Pipeline p.id) ∷ []))
 
 -- the reply where the pipeline with the number was pruned
 abbrev pub pruned_reply : ℕ → Reply

@@ -1,5 +1,5 @@
 -- A project is read, or what it has: its newest pipelines, the jobs of a pipeline, the attempts of a job, the trace of one of them, and its resource groups.
-use Rattle.std.specs.Prelude.{ℕ, Bool, List, [], ◌∷◌, map, filter, find, take, reverse, ◌==◌, if◌then◌else◌, Option, Some, None, option_map, option_and_then, Result, Ok, Err}
+use Rattle.std.specs.Prelude.{ℕ, List, [], ◌∷◌, map, find, take, ◌==◌, if◌then◌else◌, Option, Some, None, option_map, option_and_then, Result, Ok, Err}
 use Rattle.std.specs.Ordering.{nat_cmp}
 use Rattle.std.specs.Cmp.Lexicographic.{slice_cmp}
 use Rattle.serde_json.specs.Data.{Data, array}
@@ -10,23 +10,14 @@ use Rattle.ci_machine.specs.declared.records.Project.{Project}
 use Rattle.ci_machine.specs.declared.records.Pipeline.{Pipeline}
 use Rattle.ci_machine.specs.declared.records.Job.{Job}
 use Rattle.ci_machine.specs.declared.records.Attempt.{Attempt}
-use Rattle.ci_machine.specs.declared.records.Holder.{Holder}
 use Rattle.ci_machine.specs.declared.records.BoardRow.{BoardRow}
 use Rattle.ci_machine.specs.declared.request.Subject.{Subject}
-use Rattle.ci_machine.specs.declared.request.Subject.TheVariants as subject
 use Rattle.ci_machine.specs.declared.reply.Code.{Code}
 use Rattle.ci_machine.specs.declared.reply.Code.TheVariants.{M3}
 use Rattle.ci_machine.specs.declared.reply.Body.{Body}
 use Rattle.ci_machine.specs.declared.reply.Body.TheVariants.{Json, Plain}
-use Rattle.ci_machine.specs.State.{State, put}
-use Rattle.ci_machine.specs.Statuses.{jobs_of, attempts_of, facts_of, rows_of}
-use Rattle.ci_machine.specs.Lookups.{pipeline_at, job_at, attempt_at, pipeline_of, trace_of, newest_of}
-use Rattle.ci_machine.specs.Indexes.{with_status}
-use Rattle.ci_machine.specs.Eligible.{holds}
-use Rattle.ci_machine.specs.Groups.{order_of}
-use Rattle.ci_machine.specs.Holders.{holders, holders_in}
-use Rattle.ci_machine.specs.Waiting.{claims_in, modes_in}
-use Rattle.ci_machine.specs.Listings.{listed, project_data, listed_pipeline_data, attempt_data, told_jobs, group_data}
+use Rattle.ci_machine.specs.Prelude.{State, put, jobs_of, attempts_of, facts_of, rows_of, pipeline_at, job_at, attempt_at, pipeline_of, trace_of, newest_of, with_status, holds}
+use Rattle.ci_machine.specs.Prelude.{order_of, holders, holders_in, claims_in, modes_in, listed, project_data, listed_pipeline_data, attempt_data, told_jobs, group_data}
 use Rattle.ci_machine_steps.specs.Plans.{Plan, refused, fine}
 use Rattle.ci_machine_steps.specs.Shows.{job_within, pipeline_within}
 
@@ -92,12 +83,12 @@ groups_read s project = listed (group_read s project) (group_names s project)
 -- ---- a project, or what it has
 
 abbrev pub read_subject : State → List BoardRow → Project → Subject → Result Body Code
-read_subject s board p subject.Project = Ok (json (project_data p))
-read_subject s board p subject.Pipelines = Ok (json (pipelines_read s board p.id))
-read_subject s board p (subject.Jobs n) = jobs_read s board p.id (pipeline_within (pipeline_at s n) p.id)
-read_subject s board p (subject.Attempts n) = let job = job_at s n in attempts_read s (job_within job (pipeline_of s job) p.id)
-read_subject s board p (subject.Trace n attempt) = let job = job_at s n in trace_read s (attempt_of s (job_within job (pipeline_of s job) p.id) attempt)
-read_subject s board p subject.ResourceGroups = Ok (json (groups_read s p.id))
+read_subject s board p Subject.Project = Ok (json (project_data p))
+read_subject s board p Subject.Pipelines = Ok (json (pipelines_read s board p.id))
+read_subject s board p (Subject.Jobs n) = jobs_read s board p.id (pipeline_within (pipeline_at s n) p.id)
+read_subject s board p (Subject.Attempts n) = let job = job_at s n in attempts_read s (job_within job (pipeline_of s job) p.id)
+read_subject s board p (Subject.Trace n attempt) = let job = job_at s n in trace_read s (attempt_of s (job_within job (pipeline_of s job) p.id) attempt)
+read_subject s board p Subject.ResourceGroups = Ok (json (groups_read s p.id))
 
 abbrev pub read_of : State → List BoardRow → Result Project Code → Subject → Result Body Code
 read_of s board (Err code) what = Err code

@@ -9,10 +9,7 @@ use Rattle.ci_machine.specs.declared.request.JobQuery.{JobQuery}
 use Rattle.ci_machine.specs.declared.reply.Code.{Code}
 use Rattle.ci_machine.specs.declared.reply.Code.TheVariants.{M1, M2, M3}
 use Rattle.ci_machine.specs.declared.reply.Body.TheVariants.{Json, Plain}
-use Rattle.ci_board.specs.declared.facts.Facts.{Facts}
-use Rattle.ci_board.specs.declared.facts.Row.{Row}
-use Rattle.ci_board.specs.declared.facts.Status.{Status}
-use Rattle.ci_machine.specs.Bodies.{printed_status, job_data, pipeline_data}
+use Rattle.ci_machine.specs.Prelude.{Facts, Row, Status, printed_status, job_data, pipeline_data}
 use Rattle.ci_machine_steps.specs.Plans.{Plan, refused, fine}
 
 -- the job, where its pipeline is the project's

@@ -2,10 +2,7 @@
 use Rattle.std.specs.Prelude.{◌≡◌, ◌<◌, ◌≤◌, true, length, map, All, Some}
 use Rattle.std.specs.Ordering.{nat_cmp}
 use Rattle.std.specs.List.Sorted.{IsStrictlySortedBy}
-use Rattle.ci_machine.specs.State.{State, need_cmp}
-use Rattle.ci_machine.specs.Statuses.{attempts_of}
-use Rattle.ci_machine.specs.Leases.{is_live}
-use Rattle.ci_machine_steps.specs.Step.{last_attempt}
+use Rattle.ci_machine.specs.Prelude.{State, need_cmp, attempts_of, is_live, last_attempt}
 use Rattle.ci_machine_steps.specs.Laws.{IsLinked}
 
 -- Records stand in the order of their numbers, which are 1 or more and below those that come next, and jobs in that of their pipelines; what a

@@ -11,21 +11,14 @@ use Rattle.ci_machine.specs.declared.request.Request.TheVariants.{AddProject, Ad
 use Rattle.ci_machine.specs.declared.request.JobQuery.{JobQuery}
 use Rattle.ci_machine.specs.declared.request.PipelineQuery.{PipelineQuery}
 use Rattle.ci_machine.specs.declared.request.Event.{Event}
-use Rattle.ci_machine.specs.declared.request.Event.TheVariants as event
 use Rattle.ci_machine.specs.declared.request.Seed.{Seed}
 use Rattle.ci_machine.specs.declared.change.RowChange.{RowChange}
 use Rattle.ci_machine.specs.declared.reply.Swept.{Swept}
 use Rattle.ci_machine.specs.declared.reply.Answer.{Answer}
-use Rattle.ci_machine.specs.declared.reply.Answer.TheVariants as answer
 use Rattle.ci_machine.specs.declared.records.BoardRow.{BoardRow}
-use Rattle.ci_machine.specs.State.{State, applied}
-use Rattle.ci_machine.specs.Statuses.{jobs_of, attempts_of, facts_of, rows_of, status_for, AreBoard}
+use Rattle.ci_machine.specs.Prelude.{State, applied, jobs_of, attempts_of, facts_of, rows_of, status_for, AreBoard, order_of, groups_in, claims_in, chosen, first_due}
 pub use Rattle.ci_machine.specs.Lookups.{project_at, project_with, project_variables, variable_at, runner_at, runner_with, pipeline_at, job_at, demand_of, demand_at, attempt_at, variables_of, last_attempt, trace_of, limit_or_none, lease_of, lease_at, live_attempts, leases, is_pending, pending_jobs, project_or_none, queued, queue, pipeline_of, trace_if_any, next_of}
 pub use Rattle.ci_machine.specs.Indexes.{with_status, was_tried, redundant_in}
-use Rattle.ci_machine.specs.Groups.{order_of}
-use Rattle.ci_machine.specs.Waiting.{groups_in, claims_in}
-use Rattle.ci_machine.specs.Eligible.{chosen}
-use Rattle.ci_machine.specs.Leases.{first_due}
 use Rattle.ci_machine_steps.specs.Plans.{Plan, asked_project}
 use Rattle.ci_machine_steps.specs.Projects.{add_project}
 use Rattle.ci_machine_steps.specs.Runners.{add_runner, pause_runner}
@@ -132,10 +125,10 @@ Does s board (PruneOne before) now seed plan =
 
 -- what an event does in a state whose jobs have these rows: a request is answered by a reply, and a sweep by what it did
 abbrev pub Happens : State → List BoardRow → Event → ℕ → Seed → Answer → List RowChange → Type 0
-Happens s board (event.Request request) now seed (answer.Reply reply) changes = Does s board request now seed (reply, changes)
-Happens s board event.Sweep now seed (answer.Swept swept) changes = (swept, changes) ≡ sweep_in s board now
-Happens s board (event.Request request) now seed (answer.Swept swept) changes = ⊥
-Happens s board event.Sweep now seed (answer.Reply reply) changes = ⊥
+Happens s board (Event.Request request) now seed (Answer.Reply reply) changes = Does s board request now seed (reply, changes)
+Happens s board Event.Sweep now seed (Answer.Swept swept) changes = (swept, changes) ≡ sweep_in s board now
+Happens s board (Event.Request request) now seed (Answer.Swept swept) changes = ⊥
+Happens s board Event.Sweep now seed (Answer.Reply reply) changes = ⊥
 
 -- From a state an event, at a moment and with a seed, leads to an answer and the next state. Neither has statuses: the step asks for the
 -- rows of the state before, and there are those of the state after.

@@ -6,14 +6,13 @@ use Rattle.ci_machine.specs.declared.lease.Lease.{Lease}
 use Rattle.ci_machine.specs.declared.lease.PieceFault.{PieceFault}
 use Rattle.ci_machine.specs.declared.lease.PieceFault.TheVariants.{Unleased, WrongOffset, TraceFull}
 use Rattle.ci_machine.specs.declared.change.RowChange.TheVariants.{Put, Append}
-use Rattle.ci_machine.specs.declared.change.Record.TheVariants as row
+use Rattle.ci_machine.specs.declared.change.Record.{Record}
 use Rattle.ci_machine.specs.declared.request.TracePart.{TracePart}
 use Rattle.ci_machine.specs.declared.reply.Code.TheVariants.{M5, M8, M9}
 use Rattle.ci_machine.specs.declared.reply.HttpStatus.TheVariants.{Accepted}
 use Rattle.ci_machine.specs.declared.reply.JobStatus.TheVariants.{Running}
 use Rattle.ci_machine.specs.declared.reply.Reply.{Reply}
-use Rattle.ci_machine.specs.Reply.{plain, refusal}
-use Rattle.ci_machine.specs.Leases.{accepted}
+use Rattle.ci_machine.specs.Prelude.{plain, refusal, accepted}
 use Rattle.ci_machine_steps.specs.Plans.{Plan, refused}
 use Rattle.ci_machine_steps.specs.Reports.{unleased}
 
@@ -30,7 +29,7 @@ not_accepted TraceFull = refusal M9
 abbrev pub grown : Attempt → List ℕ → ℕ → ℕ → Plan
 grown a bytes now size = (
   accepted_to size,
-  Append (record { attempt = a.id; bytes = bytes }) ∷ Put (row.Attempt (record a { seen = max a.seen now })) ∷ [],
+  Append (record { attempt = a.id; bytes = bytes }) ∷ Put (Record.Attempt (record a { seen = max a.seen now })) ∷ [],
 )
 
 abbrev pub appended : Attempt → List ℕ → ℕ → Result ℕ PieceFault → Plan

@@ -6,16 +6,12 @@ ghost use Rattle.ci_machine_steps.specs.Plans.{token_of};
 ghost use Rattle.std.specs.Ordering.{nat_cmp};
 ghost use Rattle.std.specs.Cmp.Lexicographic.{slice_cmp};
 ghost use Rattle.std.specs.List.Sorted.{IsStrictlySortedBy};
-ghost use Rattle.ci_values.specs.Layers.{Variables, value_in};
-ghost use Rattle.ci_values.specs.Table.{meaning_of};
-ghost use Rattle.ci_yaml_lines.specs.declared.code.Code.{Code as YamlCode};
-ghost use Rattle.ci_yaml.specs.FaultText.{fault_text};
-ghost use Rattle.ci_config.specs.Config.{Config, Job as ConfigJob};
-ghost use Rattle.ci_config.specs.Fault.{Fault, said as keyword_text};
-ghost use Rattle.ci_graph_layout.specs.Inclusion.{Given, layered, own_names};
+ghost use Rattle.ci_machine.specs.Prelude.{Variables, value_in, meaning_of, detail_text};
+ghost use Rattle.ci_config.specs.Prelude.{Code as YamlCode};
+ghost use Rattle.ci_yaml.specs.Prelude.{fault_text};
+ghost use Rattle.ci_graph_layout.specs.Prelude.{Config, Job as ConfigJob, Fault, said as keyword_text, Given, layered, own_names};
 ghost use Rattle.ci_machine_steps.specs.Files.{keyword_fault, line_fault};
 ghost use Rattle.ci_machine_steps.specs.Pipelines.{merged};
-ghost use Rattle.ci_machine.specs.Reply.{detail_text};
 
 use ci_yaml::YamlFault;
 

@@ -1,26 +1,21 @@
 -- What changes leave as it was.
-use Rattle.std.specs.Prelude.{◌≡◌, Bool, true, false, List, [], ◌∷◌, ◌||◌}
+use Rattle.std.proofs.Common.{◌≡◌, Bool, true, false, List, [], ◌∷◌, ◌||◌, refl, sym, ◌∙◌}
 use Rattle.std.specs.List.{list_any}
-use Rattle.std.proofs.Common.{refl, sym, ◌∙◌}
 use Rattle.std.proofs.lemmas.Bool.{false≢true}
-use Rattle.ci_machine.specs.declared.change.Key.TheVariants as key
-use Rattle.ci_machine.specs.declared.change.Record.TheVariants as row
-use Rattle.ci_machine.specs.declared.change.RowChange.{RowChange}
-use Rattle.ci_machine.specs.declared.change.RowChange.TheVariants.{Put, Append, Remove}
-use Rattle.ci_machine.specs.State.{State, changed, applied}
+use Rattle.ci_machine_steps.specs.Prelude.{Key, Record, RowChange, Put, Remove, State, changed, applied}
 use Rattle.ci_memory.specs.Modes.{is_of_mode}
 use Rattle.ci_memory.specs.Runners.{is_of_runner}
 
 -- a change that is not of a runner leaves the runners
 runners_stay : (c : RowChange) (s : State) → is_of_runner c ≡ false → (changed c s).runners ≡ s.runners
-runners_stay (Put (row.Runner x)) s e = absurd (false≢true (sym e))
-runners_stay (Remove (key.Runner n)) s e = absurd (false≢true (sym e))
+runners_stay (Put (Record.Runner x)) s e = absurd (false≢true (sym e))
+runners_stay (Remove (Key.Runner n)) s e = absurd (false≢true (sym e))
 runners_stay _ s e = refl
 
 -- one that is not of a mode leaves the modes
 modes_stay : (c : RowChange) (s : State) → is_of_mode c ≡ false → (changed c s).modes ≡ s.modes
-modes_stay (Put (row.Mode x)) s e = absurd (false≢true (sym e))
-modes_stay (Remove (key.Mode n name)) s e = absurd (false≢true (sym e))
+modes_stay (Put (Record.Mode x)) s e = absurd (false≢true (sym e))
+modes_stay (Remove (Key.Mode n name)) s e = absurd (false≢true (sym e))
 modes_stay _ s e = refl
 
 pub first : (a b : Bool) → (a || b) ≡ false → a ≡ false

@@ -1,17 +1,12 @@
 -- What is remembered of the pipelines that aren't finished, by membership, and under changes.
-use Rattle.std.specs.Prelude.{◌≡◌, ◌⊎◌, ℕ, Bool, true, false, ◌||◌, ◌==◌, not, List, [], ◌∷◌, ◌++◌, map, filter, find, Contains, Some, None}
+use Rattle.std.proofs.Common.{◌≡◌, ◌⊎◌, ℕ, Bool, true, false, ◌||◌, ◌==◌, not, List, [], ◌∷◌, ◌++◌, map, filter, find, Contains, Some, None, nat_cmp, is_eq, refl, sym, ap, subst}
+use Rattle.std.proofs.Common.{◌∙◌, inl, inr, ⊎_elim, eqb-true, eq-eqb}
 use Rattle.std.specs.List.{list_any}
-use Rattle.std.specs.Ordering.{nat_cmp, is_eq}
-use Rattle.std.proofs.Common.{refl, sym, ap, subst, ◌∙◌, inl, inr, ⊎_elim, eqb-true, eq-eqb}
 use Rattle.std.proofs.lemmas.Bool.{cases_Bool, both_ways, false≢true}
-use Rattle.ci_machine.specs.declared.records.Pipeline.{Pipeline}
-use Rattle.ci_machine.specs.declared.records.Unfinished.{Unfinished}
-use Rattle.ci_machine.specs.State.{pipeline_cmp, put, without}
-use Rattle.ci_machine.specs.Kept.{Kept, unfinished_cmp}
-use Rattle.ci_machine.specs.Redundant.{is_newer_of}
+use Rattle.ci_machine_steps.specs.Prelude.{Pipeline, Unfinished, pipeline_cmp, put, without, Kept, unfinished_cmp, is_newer_of}
 use Rattle.ci_machine.proofs.Keyed.{Has, Named, has_find, has_filter, filter_has, has_put, put_has, has_map, map_has, same, unequal, has_from_contains, contains_from_has, has_from_all, All-from_has, contains_named, named_contains, not_true}
 use Rattle.ci_machine.proofs.Tests.{any_has, has_any}
-use Rattle.ci_server_lookups.specs.Unfinished.{AreOpen}
+use Rattle.ci_server_lookups.specs.Prelude.{AreOpen}
 use Rattle.ci_server_lookups.proofs.OpenRows.{same_test}
 use Rattle.ci_memory.specs.Known.{Known}
 use Rattle.ci_memory.specs.Alone.{IsOpen, IsAlone, Accounts}
@@ -223,9 +218,6 @@ module _ (v : Unfinished) (ps : List Pipeline) (us : List Unfinished) (alone : L
   }
 
 module _ (n : ℕ) (ps : List Pipeline) (us : List Unfinished) (alone : List Pipeline) (suspects : List ℕ) (c : Covers ps us alone suspects) where
-  different : (m : ℕ) → not (m == n) ≡ true → m ≡ n → ⊥
-  different m t e = both_ways (m == n) (not_true (m == n) t) (eq-eqb m n e)
-
   is_other : (m k : ℕ) → not (m == n) ≡ true → k ≡ m → not (k == n) ≡ true
   is_other m k t e = subst (λ z. not (z == n) ≡ true) (sym e) t
 

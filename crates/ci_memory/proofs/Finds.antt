@@ -1,17 +1,10 @@
 -- What finds a project in a state finds it after a change that isn't of it.
-use Rattle.std.specs.Prelude.{◌≡◌, ◌==◌, ℕ, Bool, true, false, cond, not, List, [], ◌∷◌, filter, find, All, Some, None}
-use Rattle.std.specs.Ordering.{nat_cmp, is_eq, is_lt}
-use Rattle.std.specs.declared.cmp.Ordering.{Ordering}
+use Rattle.std.proofs.Common.{◌≡◌, ◌==◌, ℕ, Bool, true, false, cond, not, List, [], ◌∷◌, filter, find, All, Some, None, nat_cmp, is_eq, is_lt, Ordering, refl, sym, ap, subst, ◌∙◌}
+use Rattle.std.proofs.Common.{eq-eqb}
 use Rattle.std.specs.Str.{bytes_eq}
-use Rattle.std.proofs.Common.{refl, sym, ap, subst, ◌∙◌, eq-eqb}
 use Rattle.std.proofs.lemmas.Bool.{cond_both, cond-true, cond-false, false≢true}
 use Rattle.std.proofs.lemmas.Slice.Eq.{bytes_eq-Decides}
-use Rattle.ci_machine.specs.declared.change.Key.TheVariants as key
-use Rattle.ci_machine.specs.declared.change.Record.TheVariants as row
-use Rattle.ci_machine.specs.declared.change.RowChange.{RowChange}
-use Rattle.ci_machine.specs.declared.change.RowChange.TheVariants.{Put, Append, Remove}
-use Rattle.ci_machine.specs.declared.records.Project.{Project}
-use Rattle.ci_machine.specs.State.{State, placed, others, project_cmp, changed}
+use Rattle.ci_machine_steps.specs.Prelude.{Key, Record, RowChange, Put, Remove, Project, State, placed, others, project_cmp, changed}
 use Rattle.ci_machine.proofs.Keyed.{has_filter, has_find, has_from_all, All-from_has, unequal}
 use Rattle.ci_memory.specs.Projects.{IsFound, is_of_project}
 use Rattle.ci_memory.proofs.Changes.{first, later}
@@ -39,10 +32,10 @@ find_left test left x (z ∷ zs) is k =
 
 -- a change that isn't of a project that is found leaves it found
 stays_found : (p : Project) (c : RowChange) (s : State) → is_of_project p c ≡ false → IsFound s p → IsFound (changed c s) p
-stays_found p (Put (row.Project x)) s e is =
+stays_found p (Put (Record.Project x)) s e is =
     find_placed project_cmp (λ q. bytes_eq q.token p.token) x (others project_cmp x s.projects) (later (x.id == p.id) (bytes_eq x.token p.token) e)
     ∙ find_left (λ q. bytes_eq q.token p.token) (λ y. not (is_eq (project_cmp y x))) p s.projects is (unequal p.id x.id (λ same. false≢true (sym (first (x.id == p.id) (bytes_eq x.token p.token) e) ∙ eq-eqb x.id p.id (sym same))))
-stays_found p (Remove (key.Project n)) s e is =
+stays_found p (Remove (Key.Project n)) s e is =
     find_left (λ q. bytes_eq q.token p.token) (λ y. not (is_eq (nat_cmp y.id n))) p s.projects is (unequal p.id n (λ same. false≢true (sym e ∙ eq-eqb n p.id (sym same))))
 stays_found p _ s e is = is
 

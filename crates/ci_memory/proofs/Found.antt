@@ -1,11 +1,8 @@
 -- What is found in a list that is changed.
-use Rattle.std.specs.Prelude.{◌≡◌, Bool, true, false, cond, not, List, [], ◌∷◌, filter, find, Option, Some, None}
-use Rattle.std.specs.declared.cmp.Ordering.{Ordering}
-use Rattle.std.specs.Ordering.{is_eq, is_lt}
+use Rattle.std.proofs.Common.{◌≡◌, Bool, true, false, cond, not, List, [], ◌∷◌, filter, find, Option, Some, None, Ordering, is_eq, is_lt, refl, sym, ap, ◌∙◌, inl, inr, ⊎_elim}
 use Rattle.std.specs.List.{list_any}
-use Rattle.std.proofs.Common.{refl, sym, ap, ◌∙◌, inl, inr, ⊎_elim}
 use Rattle.std.proofs.lemmas.Bool.{cond_both, cond-true, cond-false, cases_Bool, both_ways}
-use Rattle.ci_machine.specs.State.{placed, others, put}
+use Rattle.ci_machine_steps.specs.Prelude.{placed, others, put}
 use Rattle.ci_machine.proofs.Keyed.{Has}
 use Rattle.ci_machine.proofs.Tests.{has_any}
 

@@ -1,12 +1,8 @@
 -- What is found of a job once a job is put or goes.
-use Rattle.std.specs.Prelude.{◌≡◌, ℕ, ◌==◌, cond, not, Bool, true, false, List, [], ◌∷◌, filter, find, Option, Some, None, option_map}
-use Rattle.std.specs.declared.cmp.Ordering.{Ordering}
-use Rattle.std.specs.Ordering.{nat_cmp, is_eq, is_lt}
-use Rattle.std.proofs.Common.{refl, sym, ap, ◌∙◌, ⊎_elim, inl, inr, eqb-true, eq-eqb, ne_eqb}
+use Rattle.std.proofs.Common.{◌≡◌, ℕ, ◌==◌, cond, not, Bool, true, false, List, [], ◌∷◌, filter, find, Option, Some, None, option_map, Ordering, nat_cmp, is_eq, is_lt, refl, sym}
+use Rattle.std.proofs.Common.{ap, ◌∙◌, ⊎_elim, inl, inr, eqb-true, eq-eqb, ne_eqb}
 use Rattle.std.proofs.lemmas.Bool.{cond-true, cond-false, cond_both, cases_Bool, false≢true}
-use Rattle.ci_machine.specs.declared.records.Job.{Job}
-use Rattle.ci_machine.specs.State.{State, placed, others, put, without, job_cmp}
-use Rattle.ci_machine.specs.Lookups.{job_at, limit_or_none}
+use Rattle.ci_machine_steps.specs.Prelude.{Job, State, placed, others, put, without, job_cmp, job_at, limit_or_none}
 use Rattle.ci_machine.proofs.Keyed.{Has, has_filter, different, unequal}
 use Rattle.ci_memory.specs.declared.leases.Limit.{Limit}
 use Rattle.ci_memory.specs.Quiet.{IsLimit}

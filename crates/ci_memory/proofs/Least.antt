@@ -1,15 +1,9 @@
 -- The redundant pipeline is the suspect of least number that is superseded: those that are alone aren't, and the rest are suspects.
-use Rattle.std.specs.Prelude.{◌≡◌, ◌⊎◌, ℕ, ◌+◌, ◌<◌, ◌≤◌, false, nat_lt, ◌==◌, List, [], ◌∷◌, ◌++◌, map, filter, find, Option, Some, None}
+use Rattle.std.proofs.Common.{◌≡◌, ◌⊎◌, ℕ, ◌+◌, ◌<◌, ◌≤◌, false, nat_lt, ◌==◌, List, [], ◌∷◌, ◌++◌, map, filter, find, Option, Some, None, refl, sym, ap, subst, ◌∙◌, inl, inr}
+use Rattle.std.proofs.Common.{⊎_elim, arith, ltb-true, ltb-false, eqb-true}
 use Rattle.std.specs.List.{list_any}
-use Rattle.std.proofs.Common.{refl, sym, ap, subst, ◌∙◌, inl, inr, ⊎_elim, arith, ltb-true, ltb-false, eqb-true}
 use Rattle.std.proofs.lemmas.Bool.{cases_Bool, cond_both, cond-true, cond-false}
-use Rattle.ci_machine.specs.declared.records.BoardRow.{BoardRow}
-use Rattle.ci_machine.specs.declared.records.Pipeline.{Pipeline}
-use Rattle.ci_machine.specs.declared.records.Unfinished.{Unfinished}
-use Rattle.ci_machine.specs.State.{State}
-use Rattle.ci_machine.specs.Indexes.{is_open_in, unfinished_in, redundant_in}
-use Rattle.ci_machine.specs.Lookups.{pipeline_at}
-use Rattle.ci_machine.specs.Redundant.{is_newer_of}
+use Rattle.ci_machine_steps.specs.Prelude.{BoardRow, Pipeline, Unfinished, State, is_open_in, unfinished_in, redundant_in, pipeline_at, is_newer_of}
 use Rattle.ci_machine.proofs.Keyed.{Has, Rising, Named, rising_from, rising_filter, has_find, has_from_all, has_from_contains, contains_from_has, All-from_has}
 use Rattle.ci_memory.specs.Redundant.{is_superseded, if_superseded, superseded_at, IsLeast, lesser}
 use Rattle.ci_machine_steps.proofs.Behind.{in_either, has_left, has_right}

@@ -1,21 +1,13 @@
 -- The newest pipelines of a project stay where a change isn't of them.
-use Rattle.std.specs.Prelude.{◌≡◌, ◌==◌, ◌&&◌, ◌++◌, ℕ, zero, suc, Bool, true, false, cond, not, List, [], ◌∷◌, filter, find, reverse, take, All, Some}
+use Rattle.std.proofs.Common.{◌≡◌, ◌==◌, ◌&&◌, ◌++◌, ℕ, zero, suc, Bool, true, false, cond, not, List, [], ◌∷◌, filter, find, reverse, take, All, Some, nat_cmp, is_eq, is_lt}
+use Rattle.std.proofs.Common.{Ordering, refl, sym, ap, subst, ◌∙◌, inl, inr, ⊎_elim, eqb-true, eq-eqb}
 use Rattle.std.specs.List.{list_any}
-use Rattle.std.specs.Ordering.{nat_cmp, is_eq, is_lt}
-use Rattle.std.specs.declared.cmp.Ordering.{Ordering}
-use Rattle.std.proofs.Common.{refl, sym, ap, subst, ◌∙◌, inl, inr, ⊎_elim, eqb-true, eq-eqb}
 use Rattle.std.proofs.lemmas.Bool.{cond-true, cond-false, cond_both, both_ways}
 use Rattle.std.proofs.lemmas.List.{append-nil}
 use Rattle.std.proofs.lemmas.List.Elements.{filter-append}
 use mathlib.Core.List.{reverse-cons}
-use Rattle.ci_machine.specs.declared.change.Key.TheVariants as key
-use Rattle.ci_machine.specs.declared.change.Record.TheVariants as row
-use Rattle.ci_machine.specs.declared.change.RowChange.{RowChange}
-use Rattle.ci_machine.specs.declared.change.RowChange.TheVariants.{Put, Append, Remove}
-use Rattle.ci_machine.specs.declared.records.Pipeline.{Pipeline}
-use Rattle.ci_machine.specs.State.{State, placed, others, pipeline_cmp, changed}
+use Rattle.ci_machine_steps.specs.Prelude.{Key, Record, RowChange, Put, Remove, Pipeline, State, placed, others, pipeline_cmp, changed, newest_of}
 use Rattle.ci_machine.proofs.Keyed.{Has, has_filter, has_from_all, All-from_has, not_true, unequal}
-use Rattle.ci_machine.specs.Lookups.{newest_of}
 use Rattle.ci_memory_boards.proofs.Lists.{all_found, both}
 use Rattle.ci_memory.specs.declared.newest.NewestList.{NewestList}
 use Rattle.ci_memory.specs.Newest.{IsList, is_of_list}
@@ -82,13 +74,13 @@ module _ (l : NewestList) where
   none_with n none p has = unequal p.id n (λ same. both_ways (p.id == n) (any_none (λ (q : Pipeline). q.id == n) p l.pipelines.items none has) (eq-eqb p.id n same))
 
   stays_list : (c : RowChange) (s : State) → is_of_list l c ≡ false → IsList s l → IsList (changed c s) l
-  stays_list (Put (row.Project x)) s e is = is
-  stays_list (Put (row.Variable x)) s e is = is
-  stays_list (Put (row.Runner x)) s e is = is
-  stays_list (Put (row.Pipeline x)) s e is =
+  stays_list (Put (Record.Project x)) s e is = is
+  stays_list (Put (Record.Variable x)) s e is = is
+  stays_list (Put (Record.Runner x)) s e is = is
+  stays_list (Put (Record.Pipeline x)) s e is =
       left_list (λ y. not (is_eq (nat_cmp y.id x.id))) s.pipelines is (none_with x.id (later (x.project == l.project) (list_any (λ p. p.id == x.id) l.pipelines.items) e))
       ∙ ap (λ ps. take l.count (reverse ps)) (sym (other_placed pipeline_cmp own x (others pipeline_cmp x s.pipelines) (first (x.project == l.project) (list_any (λ p. p.id == x.id) l.pipelines.items) e)))
-  stays_list (Remove (key.Pipeline n)) s e is = left_list (λ y. not (is_eq (nat_cmp y.id n))) s.pipelines is (none_with n e)
+  stays_list (Remove (Key.Pipeline n)) s e is = left_list (λ y. not (is_eq (nat_cmp y.id n))) s.pipelines is (none_with n e)
   stays_list _ s e is = is
 
 -- so those are right still that the change isn't of

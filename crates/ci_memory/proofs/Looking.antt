@@ -1,13 +1,9 @@
 -- What is known once one more suspect is looked at.
-use Rattle.std.specs.Prelude.{◌≡◌, ◌++◌, ℕ, List, [], ◌∷◌, Option, Some, None}
-use Rattle.std.proofs.Common.{sym, subst}
+use Rattle.std.proofs.Common.{◌≡◌, ◌++◌, ℕ, List, [], ◌∷◌, Option, Some, None, sym, subst}
 use Rattle.std.proofs.lemmas.List.{append_assoc, append-nil}
-use Rattle.ci_machine.specs.declared.records.Pipeline.{Pipeline}
-use Rattle.ci_machine.specs.Kept.{Kept}
-use Rattle.ci_machine.specs.Indexes.{newer_in, redundant_in}
-use Rattle.ci_machine.specs.Lookups.{pipeline_at}
+use Rattle.ci_machine_steps.specs.Prelude.{Pipeline, Kept, newer_in, redundant_in, pipeline_at}
 use Rattle.ci_machine_steps.proofs.Sound.{sound}
-use Rattle.ci_server_lookups.specs.Keeps.{IsKept}
+use Rattle.ci_server_lookups.specs.Prelude.{IsKept}
 use Rattle.ci_memory.specs.Alone.{Accounts}
 use Rattle.ci_memory.specs.Redundant.{superseded_at, IsLeast, lesser}
 use Rattle.ci_memory.proofs.Covers.{covers, accounts, after_look}

@@ -1,15 +1,10 @@
 -- That no lease is over for a while, through puts of attempts and changes of jobs.
-use Rattle.std.specs.Prelude.{◌≡◌, ℕ, ◌==◌, ◌+◌, ◌<◌, Bool, true, false, List, [], ◌∷◌, All, length, take, slice_index_or, find, filter, Some, None}
-use Rattle.std.proofs.Common.{refl, sym, subst, ◌∙◌, ⊎_elim, inl, inr, arith}
+use Rattle.std.proofs.Common.{◌≡◌, ℕ, ◌==◌, ◌+◌, ◌<◌, Bool, true, false, List, [], ◌∷◌, All, length, take, slice_index_or, find, filter, Some, None, refl, sym, subst, ◌∙◌, ⊎_elim}
+use Rattle.std.proofs.Common.{inl, inr, arith}
 use Rattle.std.proofs.lemmas.Bool.{cond-false}
 use Rattle.std.proofs.lemmas.List.Elements.{All-more, All-weaker}
-use Rattle.ci_machine.specs.declared.lease.Lease.{Lease}
-use Rattle.ci_machine.specs.declared.records.Attempt.{Attempt}
-use Rattle.ci_machine.specs.declared.records.Job.{Job}
-use Rattle.ci_machine.specs.declared.change.Record.TheVariants as row
-use Rattle.ci_machine.specs.State.{State, attempt_cmp, with_record}
-use Rattle.ci_machine.specs.Leases.{is_live, is_over, first_due}
-use Rattle.ci_machine.specs.Lookups.{job_at, lease_of, leases, limit_or_none, live_attempts}
+use Rattle.ci_machine_steps.specs.Prelude.{Lease, Attempt, Job, Record, State, attempt_cmp, with_record, is_live, is_over, first_due, job_at, lease_of, leases, limit_or_none}
+use Rattle.ci_machine_steps.specs.Prelude.{live_attempts}
 use Rattle.ci_machine.proofs.Keyed.{Has, has_put, has_filter, filter_has, has_map, map_has, has_from_all, All-from_has}
 use Rattle.ci_memory.specs.declared.leases.Quiet.{Quiet}
 use Rattle.ci_memory.specs.Quiet.{IsQuiet, IsWithin, IsWider}
@@ -36,9 +31,9 @@ all_more q wide ls i l inside at all w is =
     All-more (IsWithin wide) ls i l inside (All-weaker (IsWithin q) (IsWithin wide) (λ x. wider q wide x w) (take i ls) all) (subst (λ (x : Lease). IsWithin wide x) at is)
 
 -- an attempt is put whose lease is within, if it is live
-pub quiet_put : (q wide : Quiet) (a : Attempt) (s : State) → IsQuiet q s → IsWider q wide → (is_live a ≡ true → IsWithin wide (lease_of s a)) → IsQuiet wide (with_record (row.Attempt a) s)
+pub quiet_put : (q wide : Quiet) (a : Attempt) (s : State) → IsQuiet q s → IsWider q wide → (is_live a ≡ true → IsWithin wide (lease_of s a)) → IsQuiet wide (with_record (Record.Attempt a) s)
 quiet_put q wide a s quiet w new =
-    from_within wide (with_record (row.Attempt a) s)
+    from_within wide (with_record (Record.Attempt a) s)
     (λ b h live. ⊎_elim
     (λ e. subst (λ (x : Attempt). IsWithin wide (lease_of s x)) (sym e) (new (subst (λ (x : Attempt). is_live x ≡ true) e live)))
     (λ m. wider q wide (lease_of s b) w (within q s quiet b m live))

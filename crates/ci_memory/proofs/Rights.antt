@@ -1,15 +1,8 @@
 -- What is remembered stays right where an attempt or a job changes.
-use Rattle.std.specs.Prelude.{◌≡◌, ◌≢◌, ◌⊎◌, ◌≤◌, ℕ, Option, Some, None, IfSome, option_map, find, ◌==◌, true}
-use Rattle.std.proofs.Common.{sym, ap, subst, ◌∙◌, ⊎_elim, arith}
+use Rattle.std.proofs.Common.{◌≡◌, ◌≢◌, ◌⊎◌, ◌≤◌, ℕ, Option, Some, None, IfSome, option_map, find, ◌==◌, true, sym, ap, subst, ◌∙◌, ⊎_elim, arith}
 use Rattle.std.proofs.lemmas.Bool.{cases_eq}
 use Rattle.std.proofs.lemmas.Option.{IfSome_then}
-use Rattle.ci_machine.specs.declared.records.Attempt.{Attempt}
-use Rattle.ci_machine.specs.declared.records.Job.{Job}
-use Rattle.ci_machine.specs.declared.change.Record.TheVariants as row
-use Rattle.ci_machine.specs.declared.change.Key.TheVariants as key
-use Rattle.ci_machine.specs.State.{State, put, without, job_cmp, with_record, without_record}
-use Rattle.ci_machine.specs.Leases.{is_live}
-use Rattle.ci_machine.specs.Lookups.{job_at, limit_or_none}
+use Rattle.ci_machine_steps.specs.Prelude.{Attempt, Job, Record, Key, State, put, without, job_cmp, with_record, without_record, is_live, job_at, limit_or_none}
 use Rattle.ci_memory.specs.declared.leases.Leases.{Leases}
 use Rattle.ci_memory.specs.declared.leases.Limit.{Limit}
 use Rattle.ci_memory.specs.declared.leases.Quiet.{Quiet}
@@ -24,14 +17,14 @@ at_some P o x is p = subst (λ (r : Option _). IfSome r P) is p
 abbrev pub limit_of : Job → Limit
 limit_of x = record { job = x.id; seconds = x.options.timeout }
 
-put_is_limit : (x : Job) (s : State) → IsLimit (limit_of x) (with_record (row.Job x) s)
+put_is_limit : (x : Job) (s : State) → IsLimit (limit_of x) (with_record (Record.Job x) s)
 put_is_limit x s = ap (option_map (λ j. j.options.timeout)) (job_put x s)
 
 -- a job is put whose time limit is known already, so it has the one that it had
-pub put_known : (m : Leases) (x : Job) (s : State) → m.limit ≡ Some (limit_of x) → AreRightOf m s → AreRightOf m (with_record (row.Job x) s)
+pub put_known : (m : Leases) (x : Job) (s : State) → m.limit ≡ Some (limit_of x) → AreRightOf m s → AreRightOf m (with_record (Record.Job x) s)
 put_known m x s is right = record {
   quiet = IfSome_then m.quiet right.quiet (λ q quiet. quiet_jobs q (put job_cmp x s.jobs) s quiet (λ n _. same n));
-  limit = subst (λ (o : Option Limit). IfSome o (λ l. IsLimit l (with_record (row.Job x) s))) (sym is) (put_is_limit x s);
+  limit = subst (λ (o : Option Limit). IfSome o (λ l. IsLimit l (with_record (Record.Job x) s))) (sym is) (put_is_limit x s);
 }
   where
     its : limit_or_none (job_at s x.id) ≡ x.options.timeout
@@ -46,21 +39,21 @@ put_known m x s is right = record {
 
 -- any other job is put
 pub put_job : (m n : Leases) (x : Job) (s : State) → IfSome n.quiet (λ q. (m.quiet ≡ Some q) × (q.below ≤ x.id)) → IfSome n.limit (λ l. (l ≡ limit_of x) ⊎ ((m.limit ≡ Some l) × (l.job ≢ x.id)))
-    → AreRightOf m s → AreRightOf n (with_record (row.Job x) s)
+    → AreRightOf m s → AreRightOf n (with_record (Record.Job x) s)
 put_job m n x s quiet limit right = record {
   quiet = IfSome_then n.quiet quiet
       (λ q is. quiet_jobs q (put job_cmp x s.jobs) s (at_some (λ p. IsQuiet p s) m.quiet q is.0 right.quiet)
       (λ k small. ap limit_or_none (job_put_other k x s (λ e. let far : q.below ≤ x.id = is.1 in omega arith))));
   limit = IfSome_then n.limit limit
       (λ l is. ⊎_elim
-      (λ e. subst (λ (k : Limit). IsLimit k (with_record (row.Job x) s)) (sym e) (put_is_limit x s))
+      (λ e. subst (λ (k : Limit). IsLimit k (with_record (Record.Job x) s)) (sym e) (put_is_limit x s))
       (λ w. ap (option_map (λ j. j.options.timeout)) (job_put_other l.job x s (λ e. w.1 (sym e))) ∙ at_some (λ k. IsLimit k s) m.limit l w.0 right.limit)
       is);
 }
 
 -- a job goes
 pub without_job : (m n : Leases) (id : ℕ) (s : State) → IfSome n.quiet (λ q. (m.quiet ≡ Some q) × (q.below ≤ id)) → IfSome n.limit (λ l. (m.limit ≡ Some l) × (l.job ≢ id))
-    → AreRightOf m s → AreRightOf n (without_record (key.Job id) s)
+    → AreRightOf m s → AreRightOf n (without_record (Key.Job id) s)
 without_job m n id s quiet limit right = record {
   quiet = IfSome_then n.quiet quiet
       (λ q is. quiet_jobs q (without (λ j. j.id) id s.jobs) s (at_some (λ p. IsQuiet p s) m.quiet q is.0 right.quiet)
@@ -70,7 +63,7 @@ without_job m n id s quiet limit right = record {
 }
 
 -- an attempt is put that isn't live
-pub put_ended : (m : Leases) (a : Attempt) (s : State) → (is_live a ≡ true → ⊥) → AreRightOf m s → AreRightOf m (with_record (row.Attempt a) s)
+pub put_ended : (m : Leases) (a : Attempt) (s : State) → (is_live a ≡ true → ⊥) → AreRightOf m s → AreRightOf m (with_record (Record.Attempt a) s)
 put_ended m a s ended right = record {
   quiet = IfSome_then m.quiet right.quiet (λ q quiet. quiet_put q q a s quiet (omega arith, omega arith) (λ live. absurd (ended live)));
   limit = right.limit;
@@ -79,7 +72,7 @@ put_ended m a s ended right = record {
 -- a live one is put, and the time limit of its job is known
 pub put_live : (m : Leases) (old : Quiet) (limit : Limit) (a : Attempt) (s : State) (new : Option Quiet) → m.quiet ≡ Some old → m.limit ≡ Some limit → limit.job ≡ a.job
     → IfSome new (λ q. IsWithin q (record { attempt = a; limit = limit.seconds })) → IfSome new (λ q. IsWider old q)
-    → AreRightOf m s → IfSome new (λ q. IsQuiet q (with_record (row.Attempt a) s))
+    → AreRightOf m s → IfSome new (λ q. IsQuiet q (with_record (Record.Attempt a) s))
 put_live m old limit a s new was known its it others right =
     IfSome_then new (both new it others)
     (λ q is. quiet_put old q a s (at_some (λ p. IsQuiet p s) m.quiet old was right.quiet) is.1

@@ -1,31 +1,23 @@
 -- Changes of records that are of no pipeline leave the pipelines.
-use Rattle.std.specs.Prelude.{◌≡◌, ℕ, ◌+◌, ◌<◌, ◌++◌, ◌∷◌, [], List, take, length, slice_index_or, Option, Some, None, Result, Ok, Err, IfOk, IfSome}
+use Rattle.std.proofs.Common.{◌≡◌, ℕ, ◌+◌, ◌<◌, ◌++◌, ◌∷◌, [], List, take, length, slice_index_or, Option, Some, None, Result, Ok, Err, IfOk, IfSome, refl, sym, ap, subst, ◌∙◌}
 use Rattle.std.specs.Result.{result_ok}
-use Rattle.std.proofs.Common.{refl, sym, ap, subst, ◌∙◌}
 use Rattle.std.proofs.lemmas.List.{take_more}
-use Rattle.ci_machine.specs.declared.records.Pipeline.{Pipeline}
-use Rattle.ci_machine.specs.declared.change.Record.TheVariants as row
-use Rattle.ci_machine.specs.declared.change.Key.TheVariants as key
-use Rattle.ci_machine.specs.declared.change.RowChange.{RowChange}
-use Rattle.ci_machine.specs.declared.change.RowChange.TheVariants.{Put, Append, Remove}
-use Rattle.ci_machine.specs.declared.change.IndexChange.{IndexChange}
-use Rattle.ci_machine.specs.Kept.{Kept, indexed, indexed_all}
-use Rattle.ci_machine.specs.State.{State, changed}
+use Rattle.ci_machine_steps.specs.Prelude.{Pipeline, Record, Key, RowChange, Put, Remove, IndexChange, Kept, indexed, indexed_all, State, changed}
 use Rattle.ci_memory.specs.Changes.{put_pipeline, removed_pipeline}
 
 -- a change that puts a pipeline is that
-pub put_is : (c : RowChange) (p : Pipeline) → put_pipeline c ≡ Some p → c ≡ Put (row.Pipeline p)
-put_is (Put (row.Pipeline q)) p e = let same : q ≡ p = cc in ap (λ (r : Pipeline). Put (row.Pipeline r)) same
+pub put_is : (c : RowChange) (p : Pipeline) → put_pipeline c ≡ Some p → c ≡ Put (Record.Pipeline p)
+put_is (Put (Record.Pipeline q)) p e = let same : q ≡ p = cc in ap (λ (r : Pipeline). Put (Record.Pipeline r)) same
 put_is _ p e = absurd (cc)
 
 -- one that removes a pipeline is that
-pub removed_is : (c : RowChange) (n : ℕ) → removed_pipeline c ≡ Some n → c ≡ Remove (key.Pipeline n)
-removed_is (Remove (key.Pipeline m)) n e = let same : m ≡ n = cc in ap (λ (i : ℕ). Remove (key.Pipeline i)) same
+pub removed_is : (c : RowChange) (n : ℕ) → removed_pipeline c ≡ Some n → c ≡ Remove (Key.Pipeline n)
+removed_is (Remove (Key.Pipeline m)) n e = let same : m ≡ n = cc in ap (λ (i : ℕ). Remove (Key.Pipeline i)) same
 removed_is _ n e = absurd (cc)
 
 pub pipelines_stay : (c : RowChange) (s : State) → put_pipeline c ≡ None → removed_pipeline c ≡ None → (changed c s).pipelines ≡ s.pipelines
-pipelines_stay (Put (row.Pipeline q)) s e f = absurd (cc)
-pipelines_stay (Remove (key.Pipeline n)) s e f = absurd (cc)
+pipelines_stay (Put (Record.Pipeline q)) s e f = absurd (cc)
+pipelines_stay (Remove (Key.Pipeline n)) s e f = absurd (cc)
 pipelines_stay _ s e f = refl
 
 -- ---- one more change of an index

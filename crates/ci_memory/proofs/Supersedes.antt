@@ -1,20 +1,10 @@
 -- The redundant pipeline of least number is the first one that is superseded of those that aren't finished.
-use Rattle.std.specs.Prelude.{◌≡◌, ℕ, ◌==◌, ◌&&◌, ◌||◌, not, cond, Bool, true, false, List, [], ◌∷◌, map, filter, find, Option, Some, None, option_map}
+use Rattle.std.proofs.Common.{◌≡◌, ℕ, ◌==◌, ◌&&◌, ◌||◌, not, cond, Bool, true, false, List, [], ◌∷◌, map, filter, find, Option, Some, None, option_map, refl, sym, ap, ◌∙◌, inl}
+use Rattle.std.proofs.Common.{inr, eqb-true}
 use Rattle.std.specs.List.{list_any}
-use Rattle.std.proofs.Common.{refl, sym, ap, ◌∙◌, inl, inr, eqb-true}
 use Rattle.std.proofs.lemmas.Bool.{cond_both}
-use Rattle.ci_machine.specs.declared.records.Attempt.{Attempt}
-use Rattle.ci_machine.specs.declared.records.BoardRow.{BoardRow}
-use Rattle.ci_machine.specs.declared.records.Job.{Job}
-use Rattle.ci_machine.specs.declared.records.Pipeline.{Pipeline}
-use Rattle.ci_machine.specs.declared.records.PipelineWithStatus.{PipelineWithStatus}
-use Rattle.ci_machine.specs.declared.records.Unfinished.{Unfinished}
-use Rattle.ci_machine.specs.State.{State}
-use Rattle.ci_machine.specs.Statuses.{jobs_of}
-use Rattle.ci_machine.specs.Ranges.{is_within, attempts_within}
-use Rattle.ci_machine.specs.Redundant.{is_newer_of, is_bound_to, is_redundant}
-use Rattle.ci_machine.specs.Indexes.{is_open_in, unfinished_in}
-use Rattle.ci_machine_steps.specs.Step.{pipeline_at, with_status, was_tried, redundant_in}
+use Rattle.ci_machine_steps.specs.Prelude.{Attempt, BoardRow, Job, Pipeline, PipelineWithStatus, Unfinished, State, jobs_of, is_within, attempts_within, is_newer_of, is_bound_to}
+use Rattle.ci_machine_steps.specs.Prelude.{is_redundant, is_open_in, unfinished_in, pipeline_at, with_status, was_tried, redundant_in}
 use Rattle.ci_machine.proofs.Keyed.{Has, Rising, find_has}
 use Rattle.ci_memory.specs.Redundant.{is_superseded, if_superseded, superseded_at}
 

@@ -1,9 +1,6 @@
 -- What is remembered of the pipelines that aren't finished is right for what a store keeps: it covers them.
 use Rattle.std.specs.Prelude.{◌≡◌, ◌⊎◌, ℕ, map, All, Contains, Option, Some, None, IfSome}
-use Rattle.ci_machine.specs.declared.records.Pipeline.{Pipeline}
-use Rattle.ci_machine.specs.Kept.{Kept}
-use Rattle.ci_machine.specs.Lookups.{pipeline_at}
-use Rattle.ci_machine.specs.Indexes.{newer_in}
+use Rattle.ci_machine_steps.specs.Prelude.{Pipeline, Kept, pipeline_at, newer_in}
 use Rattle.ci_memory.specs.Known.{Known}
 
 -- a pipeline with this number isn't finished

@@ -1,9 +1,7 @@
 -- What is seen of a suspect, and what is known once some of them are looked at.
 use Rattle.std.specs.Prelude.{◌≡◌, ℕ, List, ◌++◌, Some, None}
-use Rattle.ci_machine.specs.Kept.{Kept}
-use Rattle.ci_machine.specs.Lookups.{pipeline_at}
-use Rattle.ci_machine.specs.Indexes.{newer_in}
-use Rattle.ci_server_lookups.specs.Keeps.{IsKept}
+use Rattle.ci_machine_steps.specs.Prelude.{Kept, pipeline_at, newer_in}
+use Rattle.ci_server_lookups.specs.Prelude.{IsKept}
 use Rattle.ci_memory.specs.Alone.{Accounts}
 use Rattle.ci_memory.specs.Redundant.{superseded_at, IsLeast}
 use Rattle.ci_memory.specs.declared.pipelines.redundant.Seen.{Seen}

@@ -1,10 +1,6 @@
 -- The process modes that are remembered are those of a state.
 use Rattle.std.specs.Prelude.{◌≡◌, Bool, true, false}
-use Rattle.ci_machine.specs.declared.change.Key.TheVariants as key
-use Rattle.ci_machine.specs.declared.change.Record.TheVariants as row
-use Rattle.ci_machine.specs.declared.change.RowChange.{RowChange}
-use Rattle.ci_machine.specs.declared.change.RowChange.TheVariants.{Put, Remove}
-use Rattle.ci_machine.specs.State.{State}
+use Rattle.ci_machine_steps.specs.Prelude.{Key, Record, RowChange, Put, Remove, State}
 use Rattle.ci_memory.specs.declared.modes.Modes.{Modes}
 use Rattle.ci_memory.specs.declared.modes.Modes.TheVariants.{Unknown, Many, All}
 
@@ -16,6 +12,6 @@ AreModes (All modes) s = modes.items ≡ s.modes
 
 -- the change is of a mode
 abbrev pub is_of_mode : RowChange → Bool
-is_of_mode (Put (row.Mode m)) = true
-is_of_mode (Remove (key.Mode n name)) = true
+is_of_mode (Put (Record.Mode m)) = true
+is_of_mode (Remove (Key.Mode n name)) = true
 is_of_mode _ = false

@@ -1,12 +1,7 @@
 -- The newest pipelines that are remembered are those of a state.
 use Rattle.std.specs.Prelude.{◌≡◌, ◌==◌, ◌||◌, Bool, false, All, take, IfSome}
 use Rattle.std.specs.List.{list_any}
-use Rattle.ci_machine.specs.declared.change.Key.TheVariants as key
-use Rattle.ci_machine.specs.declared.change.Record.TheVariants as row
-use Rattle.ci_machine.specs.declared.change.RowChange.{RowChange}
-use Rattle.ci_machine.specs.declared.change.RowChange.TheVariants.{Put, Remove}
-use Rattle.ci_machine.specs.State.{State}
-use Rattle.ci_machine.specs.Lookups.{newest_of}
+use Rattle.ci_machine_steps.specs.Prelude.{Key, Record, RowChange, Put, Remove, State, newest_of}
 use Rattle.ci_memory.specs.declared.newest.Newest.{Newest}
 use Rattle.ci_memory.specs.declared.newest.NewestList.{NewestList}
 
@@ -20,6 +15,6 @@ AreNewest m s = IfSome m.known (λ lists. All (IsList s) lists.items)
 
 -- the change puts a pipeline of its project, or puts or removes one that it has
 abbrev pub is_of_list : NewestList → RowChange → Bool
-is_of_list l (Put (row.Pipeline q)) = q.project == l.project || list_any (λ p. p.id == q.id) l.pipelines.items
-is_of_list l (Remove (key.Pipeline n)) = list_any (λ p. p.id == n) l.pipelines.items
+is_of_list l (Put (Record.Pipeline q)) = q.project == l.project || list_any (λ p. p.id == q.id) l.pipelines.items
+is_of_list l (Remove (Key.Pipeline n)) = list_any (λ p. p.id == n) l.pipelines.items
 is_of_list l _ = false

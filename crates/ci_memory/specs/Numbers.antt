@@ -1,6 +1,6 @@
 -- The next numbers that are remembered are those of a state.
 use Rattle.std.specs.Prelude.{◌≡◌, IfSome}
-use Rattle.ci_machine.specs.declared.records.Numbers.{Numbers}
+use Rattle.ci_machine_steps.specs.Prelude.{Numbers}
 use Rattle.ci_memory.specs.declared.numbers.NextNumbers.{NextNumbers}
 
 -- each that is remembered is the next of its kind

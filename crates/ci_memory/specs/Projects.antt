@@ -1,13 +1,7 @@
 -- The projects that are remembered are those of a state.
 use Rattle.std.specs.Prelude.{◌≡◌, ◌==◌, ◌||◌, Bool, false, All, Some, IfSome}
 use Rattle.std.specs.Str.{bytes_eq}
-use Rattle.ci_machine.specs.declared.change.Key.TheVariants as key
-use Rattle.ci_machine.specs.declared.change.Record.TheVariants as row
-use Rattle.ci_machine.specs.declared.change.RowChange.{RowChange}
-use Rattle.ci_machine.specs.declared.change.RowChange.TheVariants.{Put, Remove}
-use Rattle.ci_machine.specs.declared.records.Project.{Project}
-use Rattle.ci_machine.specs.Lookups.{project_with}
-use Rattle.ci_machine.specs.State.{State}
+use Rattle.ci_machine_steps.specs.Prelude.{Key, Record, RowChange, Put, Remove, Project, project_with, State}
 use Rattle.ci_memory.specs.declared.projects.Projects.{Projects}
 
 -- it is what its token finds
@@ -20,6 +14,6 @@ AreProjects m s = IfSome m.known (λ projects. All (IsFound s) projects.items)
 
 -- the change is of this project, or puts one with its token
 abbrev pub is_of_project : Project → RowChange → Bool
-is_of_project p (Put (row.Project q)) = q.id == p.id || bytes_eq q.token p.token
-is_of_project p (Remove (key.Project n)) = n == p.id
+is_of_project p (Put (Record.Project q)) = q.id == p.id || bytes_eq q.token p.token
+is_of_project p (Remove (Key.Project n)) = n == p.id
 is_of_project p _ = false

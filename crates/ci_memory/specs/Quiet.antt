@@ -1,10 +1,6 @@
 -- What is remembered of leases, and when that is right.
 use Rattle.std.specs.Prelude.{◌≡◌, ◌≤◌, ◌<◌, All, IfSome, Some, option_map}
-use Rattle.ci_machine.specs.declared.lease.Lease.{Lease}
-use Rattle.ci_machine.specs.State.{State}
-use Rattle.ci_machine.specs.Kept.{Kept}
-use Rattle.ci_machine.specs.Leases.{deadline}
-use Rattle.ci_machine.specs.Lookups.{job_at, leases}
+use Rattle.ci_machine_steps.specs.Prelude.{Lease, State, Kept, deadline, job_at, leases}
 use Rattle.ci_memory.specs.declared.leases.Quiet.{Quiet}
 use Rattle.ci_memory.specs.declared.leases.Limit.{Limit}
 use Rattle.ci_memory.specs.declared.leases.Leases.{Leases}

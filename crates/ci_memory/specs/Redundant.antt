@@ -1,11 +1,7 @@
 -- The redundant pipeline, as it is looked for among those that aren't finished.
 use Rattle.std.specs.Prelude.{◌≡◌, ◌<◌, ℕ, Bool, ◌&&◌, not, List, [], ◌∷◌, find, All, Contains, Option, Some, None, nat_lt, if◌then◌else◌}
 use Rattle.std.specs.List.{list_any}
-use Rattle.ci_machine.specs.declared.records.Pipeline.{Pipeline}
-use Rattle.ci_machine.specs.State.{State}
-use Rattle.ci_machine.specs.Lookups.{pipeline_at}
-use Rattle.ci_machine.specs.Indexes.{was_tried}
-use Rattle.ci_machine.specs.Redundant.{is_newer_of, is_bound_to}
+use Rattle.ci_machine_steps.specs.Prelude.{Pipeline, State, pipeline_at, was_tried, is_newer_of, is_bound_to}
 
 -- one of its jobs was tried and isn't interruptible
 abbrev pub is_held_back : State → Pipeline → Bool

@@ -1,5 +1,5 @@
 -- What is remembered of a store is right for what it keeps.
-use Rattle.ci_machine.specs.Kept.{Kept}
+use Rattle.ci_machine_steps.specs.Prelude.{Kept}
 use Rattle.ci_memory_boards.specs.Order.{InOrder}
 use Rattle.ci_memory_boards.specs.Sheets as boards
 use Rattle.ci_memory.specs.Quiet.{AreRight}

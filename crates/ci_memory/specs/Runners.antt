@@ -1,10 +1,6 @@
 -- The runners that are remembered are those of a state.
 use Rattle.std.specs.Prelude.{◌≡◌, Bool, true, false}
-use Rattle.ci_machine.specs.declared.change.Key.TheVariants as key
-use Rattle.ci_machine.specs.declared.change.Record.TheVariants as row
-use Rattle.ci_machine.specs.declared.change.RowChange.{RowChange}
-use Rattle.ci_machine.specs.declared.change.RowChange.TheVariants.{Put, Remove}
-use Rattle.ci_machine.specs.State.{State}
+use Rattle.ci_machine_steps.specs.Prelude.{Key, Record, RowChange, Put, Remove, State}
 use Rattle.ci_memory.specs.declared.runners.Runners.{Runners}
 use Rattle.ci_memory.specs.declared.runners.Runners.TheVariants.{Unknown, Many, All}
 
@@ -16,6 +12,6 @@ AreRunners (All runners) s = runners.items ≡ s.runners
 
 -- the change is of a runner
 abbrev pub is_of_runner : RowChange → Bool
-is_of_runner (Put (row.Runner r)) = true
-is_of_runner (Remove (key.Runner n)) = true
+is_of_runner (Put (Record.Runner r)) = true
+is_of_runner (Remove (Key.Runner n)) = true
 is_of_runner _ = false

@@ -5,11 +5,7 @@ mod deadlines;
 pub mod due;
 
 ghost use Rattle.std.specs.Prelude.{◌≡◌, ℕ, List, IfSome, IsTrue, None, Some};
-ghost use Rattle.ci_machine.specs.declared.change.IndexChange.{IndexChange};
-ghost use Rattle.ci_machine.specs.declared.records.BoardRow.{BoardRow};
-ghost use Rattle.ci_machine.specs.Kept.{Kept, cleared, written};
-ghost use Rattle.ci_machine.specs.Leases.{first_due};
-ghost use Rattle.ci_machine.specs.Lookups.{job_at, leases};
+ghost use Rattle.ci_machine_steps.specs.Prelude.{IndexChange, BoardRow, Kept, cleared, written, first_due, job_at, leases};
 ghost use Rattle.ci_memory.specs.Quiet.{AreRight, IsWider, IsWithin};
 
 use crate::leases::changes::after_changes;

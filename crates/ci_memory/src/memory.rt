@@ -1,6 +1,6 @@
 //! What is remembered of a store.
 
-ghost use Rattle.ci_machine.specs.Kept.{Kept, cleared, written};
+ghost use Rattle.ci_machine_steps.specs.Prelude.{Kept, cleared, written};
 ghost use Rattle.ci_memory_boards.specs.Order.{InOrder};
 ghost use Rattle.ci_memory.specs.Right.{IsRight};
 

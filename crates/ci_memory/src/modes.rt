@@ -2,8 +2,7 @@
 
 ghost use Rattle.std.specs.Prelude.{◌≡◌, IfOk, find, option_copied};
 ghost use Rattle.std.specs.List.{list_any};
-ghost use Rattle.ci_machine.specs.Groups.{is_mode_of};
-ghost use Rattle.ci_machine.specs.State.{State, applied};
+ghost use Rattle.ci_machine_steps.specs.Prelude.{is_mode_of, State, applied};
 ghost use Rattle.ci_memory.specs.Modes.{AreModes, is_of_mode};
 
 use ci_machine::change::{Key, Record, RowChange};

@@ -1,10 +1,8 @@
 //! The newest pipelines of projects, as they are remembered.
 
-ghost use Rattle.std.specs.Prelude.{◌≡◌, ◌==◌, ◌&&◌, ◌++◌, ◌∷◌, [], ℕ, List, All, drop, filter, find, not, take, IfSome};
+ghost use Rattle.std.specs.Prelude.{◌≡◌, ◌==◌, ◌&&◌, ◌++◌, ◌∷◌, [], ℕ, List, All, drop, filter, find, not, take, IfSome, option_copied};
 ghost use Rattle.std.specs.List.{list_any};
-ghost use Rattle.std.specs.Option.{option_copied};
-ghost use Rattle.ci_machine.specs.State.{State, changed, applied};
-ghost use Rattle.ci_machine.specs.Lookups.{newest_of};
+ghost use Rattle.ci_machine_steps.specs.Prelude.{State, changed, applied, newest_of};
 ghost use Rattle.ci_memory.specs.Newest.{IsList, AreNewest, is_of_list};
 
 use ci_machine::change::{Key, Record, RowChange};

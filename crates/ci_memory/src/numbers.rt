@@ -1,9 +1,7 @@
 //! The next numbers, as far as they are remembered.
 
 ghost use Rattle.std.specs.Prelude.{◌≡◌, IfSome};
-ghost use Rattle.ci_machine.specs.declared.records.Numbers.{Numbers};
-ghost use Rattle.ci_machine.specs.Lookups.{next_of};
-ghost use Rattle.ci_machine.specs.State.{State, with_next, changed, applied};
+ghost use Rattle.ci_machine_steps.specs.Prelude.{Numbers, next_of, State, with_next, changed, applied};
 ghost use Rattle.ci_memory.specs.Numbers.{AreNext};
 
 use ci_machine::change::{Counter, Record, RowChange};

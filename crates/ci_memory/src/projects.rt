@@ -1,10 +1,8 @@
 //! The projects that were looked up last, as they are remembered.
 
-ghost use Rattle.std.specs.Prelude.{◌≡◌, ◌++◌, ◌∷◌, [], ℕ, List, All, drop, filter, find, not, Some, IfSome};
-ghost use Rattle.std.specs.Option.{option_copied};
+ghost use Rattle.std.specs.Prelude.{◌≡◌, ◌++◌, ◌∷◌, [], ℕ, List, All, drop, filter, find, not, Some, IfSome, option_copied};
 ghost use Rattle.std.specs.Str.{bytes_eq};
-ghost use Rattle.ci_machine.specs.Lookups.{project_with};
-ghost use Rattle.ci_machine.specs.State.{State, changed, applied};
+ghost use Rattle.ci_machine_steps.specs.Prelude.{project_with, State, changed, applied};
 ghost use Rattle.ci_memory.specs.Projects.{IsFound, AreProjects, is_of_project};
 
 use ci_machine::change::{Key, Record, RowChange};

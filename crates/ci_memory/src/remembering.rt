@@ -1,13 +1,9 @@
 //! A store over a store, of which it remembers something: what is remembered is not looked up.
 
 ghost use Rattle.std.specs.Prelude.{◌≡◌};
-ghost use Rattle.ci_machine.specs.Kept.{Kept};
-ghost use Rattle.ci_machine.specs.Lookups.{demand_of};
-ghost use Rattle.ci_machine.specs.Waiting.{waiting};
-ghost use Rattle.ci_store.specs.Store.{LoadsBy};
-ghost use Rattle.ci_server_lookups.specs.Keeps.{IsKept, HoldsKept};
-ghost use Rattle.ci_server_lookups.specs.Search.{IsOffered};
-ghost use Rattle.ci_server_lookups.specs.Turns.{IsTurn};
+ghost use Rattle.ci_machine_steps.specs.Prelude.{Kept, demand_of, waiting};
+ghost use Rattle.ci_store.specs.Prelude.{LoadsBy};
+ghost use Rattle.ci_server_lookups.specs.Prelude.{IsKept, HoldsKept, IsOffered, IsTurn};
 ghost use Rattle.ci_memory_boards.specs.Fresh.{IsFresh};
 ghost use Rattle.ci_memory_boards.specs.Order.{InOrder};
 ghost use Rattle.ci_memory.specs.Right.{IsRight};
@@ -241,10 +237,6 @@ impl<T: Store> Store for Remembering<T> {
 
     fn rows_with(&mut self, status: Status) -> Result<Vec<BoardRow>, StoreFault> {
         self.store.rows_with(status)
-    }
-
-    fn pending_after(&mut self, job: u64) -> Result<Vec<BoardRow>, StoreFault> {
-        self.store.pending_after(job)
     }
 
     fn holder(&mut self, project: u64, group: &Text) -> Result<Option<Holder>, StoreFault> {

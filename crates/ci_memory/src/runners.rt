@@ -3,7 +3,7 @@
 ghost use Rattle.std.specs.Prelude.{◌≡◌, IfOk, find, option_copied};
 ghost use Rattle.std.specs.List.{list_any};
 ghost use Rattle.std.specs.Str.{bytes_eq};
-ghost use Rattle.ci_machine.specs.State.{State, applied};
+ghost use Rattle.ci_machine_steps.specs.Prelude.{State, applied};
 ghost use Rattle.ci_memory.specs.Runners.{AreRunners, is_of_runner};
 
 use ci_machine::change::{Key, Record, RowChange};

@@ -1,8 +1,6 @@
 -- One record of a list, found among those of it that are remembered.
-use Rattle.std.specs.Prelude.{◌≡◌, ◌==◌, ℕ, Bool, List, filter, find, map, Some}
+use Rattle.std.proofs.Common.{◌≡◌, ◌==◌, ℕ, Bool, List, filter, find, map, Some, nat_cmp, subst, eqb-true}
 use Rattle.std.specs.List.Sorted.{IsStrictlySortedBy}
-use Rattle.std.specs.Ordering.{nat_cmp}
-use Rattle.std.proofs.Common.{subst, eqb-true}
 use Rattle.ci_machine.proofs.Keyed.{find_has, has_find, has_filter}
 use Rattle.ci_machine_steps.proofs.Sound.{rising_from_ascend}
 

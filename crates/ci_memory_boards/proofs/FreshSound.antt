@@ -1,15 +1,7 @@
 -- Where what is kept is what the machine may come to, pipelines and jobs are new from the next numbers on.
-use Rattle.std.specs.Prelude.{◌≡◌, ◌<◌, ℕ, List, map, All, Contains}
-use Rattle.std.proofs.Common.{sym, subst}
-use Rattle.ci_machine.specs.declared.records.Attempt.{Attempt}
-use Rattle.ci_machine.specs.declared.records.BoardRow.{BoardRow}
-use Rattle.ci_machine.specs.declared.records.Job.{Job}
-use Rattle.ci_machine.specs.declared.records.Need.{Need}
-use Rattle.ci_machine.specs.declared.records.Pipeline.{Pipeline}
-use Rattle.ci_machine.specs.Kept.{Kept}
-use Rattle.ci_machine.specs.Statuses.{AreBoard}
+use Rattle.std.proofs.Common.{◌≡◌, ◌<◌, ℕ, List, map, All, Contains, sym, subst}
+use Rattle.ci_machine_steps.specs.Prelude.{Attempt, BoardRow, Job, Need, Pipeline, Kept, AreBoard, IsSound}
 use Rattle.ci_machine.proofs.Keyed.{has_from_all, All-from_has, has_map, contains_from_has, named_contains}
-use Rattle.ci_machine_steps.specs.Sound.{IsSound}
 use Rattle.ci_memory_boards.specs.Fresh.{IsFresh}
 use Rattle.ci_memory_boards.specs.declared.fresh.Fresh.{Fresh}
 use Rattle.ci_memory_boards.proofs.FreshStays.{all_then}

@@ -1,24 +1,14 @@
 -- From which numbers on pipelines and jobs are new, after a change; and what is kept of a new one.
-use Rattle.std.specs.Prelude.{◌≡◌, ◌≤◌, ◌<◌, ◌==◌, ℕ, Bool, true, false, not, List, [], ◌∷◌, filter, All, nat_le, Option, None, IfSome}
-use Rattle.std.specs.Ordering.{nat_cmp, is_eq, ordering_then}
-use Rattle.std.proofs.Common.{sym, subst, ◌∙◌, ⊎_elim, eqb-true, arith}
+use Rattle.std.proofs.Common.{◌≡◌, ◌≤◌, ◌<◌, ◌==◌, ℕ, Bool, true, false, not, List, [], ◌∷◌, filter, All, nat_le, Option, None, IfSome, nat_cmp, is_eq, sym, subst, ◌∙◌, ⊎_elim}
+use Rattle.std.proofs.Common.{eqb-true, arith}
+use Rattle.std.specs.Ordering.{ordering_then}
 use Rattle.std.proofs.lemmas.Bool.{cases_Bool, leb-true}
-use Rattle.ci_graph.specs.JobGraph.{JobGraph}
-use Rattle.ci_machine.specs.declared.change.Key.TheVariants as key
-use Rattle.ci_machine.specs.declared.change.Record.TheVariants as row
-use Rattle.ci_machine.specs.declared.change.RowChange.{RowChange}
-use Rattle.ci_machine.specs.declared.change.RowChange.TheVariants.{Put, Remove}
-use Rattle.ci_machine.specs.declared.records.Attempt.{Attempt}
-use Rattle.ci_machine.specs.declared.records.BoardRow.{BoardRow}
-use Rattle.ci_machine.specs.declared.records.Job.{Job}
-use Rattle.ci_machine.specs.declared.records.Need.{Need}
-use Rattle.ci_machine.specs.Kept.{Kept, row_cmp, cleared}
-use Rattle.ci_machine.specs.Ranges.{is_within}
-use Rattle.ci_machine.specs.State.{State, job_cmp, need_cmp, attempt_cmp, put, without, without_all, changed}
+use Rattle.ci_machine.specs.Prelude.{JobGraph}
+use Rattle.ci_machine_steps.specs.Prelude.{Key, Record, RowChange, Put, Remove, Attempt, BoardRow, Job, Need, Kept, row_cmp, cleared, is_within, State, job_cmp, need_cmp}
+use Rattle.ci_machine_steps.specs.Prelude.{attempt_cmp, put, without, without_all, changed}
 use Rattle.ci_machine.proofs.Keyed.{has_filter, has_from_all, All-from_has, filter_none}
-use Rattle.ci_machine_statuses.specs.Boards.{IsGraphOf}
+use Rattle.ci_server_lookups.specs.Prelude.{IsGraphOf, IsRight}
 use Rattle.ci_memory_boards.specs.Fresh.{IsFresh, IsNoLess, IsBefore}
-use Rattle.ci_server_lookups.specs.Sheets.{IsRight}
 use Rattle.ci_memory_boards.specs.declared.fresh.Fresh.{Fresh}
 use Rattle.ci_server_lookups.specs.declared.sheet.Sheet.{Sheet}
 use Rattle.ci_memory_boards.proofs.Lists.{all_put, both}
@@ -47,13 +37,13 @@ module _ (f g : Fresh) (s : Kept) (raised : IsNoLess f g) (is : IsFresh f s) whe
 
 -- a change that puts nothing from the numbers on
 pub fresh_changed : (f g : Fresh) (c : RowChange) (s : Kept) → IsNoLess f g → IsBefore c g → IsFresh f s → IsFresh g (record s { state = changed c s.state })
-fresh_changed f g (Put (row.Job x)) s raised before is = record { jobs = all_put (λ j. j.pipeline < g.pipeline) job_cmp x s.state.jobs (jobs_under f g s raised is) before; needs = needs_under f g s raised is; attempts = attempts_under f g s raised is; rows = rows_under f g s raised is }
-fresh_changed f g (Put (row.Need x)) s raised before is = record { jobs = jobs_under f g s raised is; needs = all_put (λ w. w.job < g.job) need_cmp x s.state.needs (needs_under f g s raised is) before; attempts = attempts_under f g s raised is; rows = rows_under f g s raised is }
-fresh_changed f g (Put (row.Attempt x)) s raised before is = record { jobs = jobs_under f g s raised is; needs = needs_under f g s raised is; attempts = all_put (λ a. a.job < g.job) attempt_cmp x s.state.attempts (attempts_under f g s raised is) before; rows = rows_under f g s raised is }
-fresh_changed f g (Remove (key.Job n)) s raised before is = record { jobs = all_filter (λ j. j.pipeline < g.pipeline) (λ j. not (is_eq (nat_cmp j.id n))) s.state.jobs (jobs_under f g s raised is); needs = needs_under f g s raised is; attempts = attempts_under f g s raised is; rows = rows_under f g s raised is }
-fresh_changed f g (Remove (key.Need n p)) s raised before is = record { jobs = jobs_under f g s raised is; needs = all_filter (λ w. w.job < g.job) (λ w. not (is_eq (ordering_then (nat_cmp w.job n) (nat_cmp w.pred p)))) s.state.needs (needs_under f g s raised is); attempts = attempts_under f g s raised is; rows = rows_under f g s raised is }
-fresh_changed f g (Remove (key.Needs n)) s raised before is = record { jobs = jobs_under f g s raised is; needs = all_filter (λ w. w.job < g.job) (λ w. not (is_eq (nat_cmp w.job n))) s.state.needs (needs_under f g s raised is); attempts = attempts_under f g s raised is; rows = rows_under f g s raised is }
-fresh_changed f g (Remove (key.Attempt n)) s raised before is = record { jobs = jobs_under f g s raised is; needs = needs_under f g s raised is; attempts = all_filter (λ a. a.job < g.job) (λ a. not (is_eq (nat_cmp a.id n))) s.state.attempts (attempts_under f g s raised is); rows = rows_under f g s raised is }
+fresh_changed f g (Put (Record.Job x)) s raised before is = record { jobs = all_put (λ j. j.pipeline < g.pipeline) job_cmp x s.state.jobs (jobs_under f g s raised is) before; needs = needs_under f g s raised is; attempts = attempts_under f g s raised is; rows = rows_under f g s raised is }
+fresh_changed f g (Put (Record.Need x)) s raised before is = record { jobs = jobs_under f g s raised is; needs = all_put (λ w. w.job < g.job) need_cmp x s.state.needs (needs_under f g s raised is) before; attempts = attempts_under f g s raised is; rows = rows_under f g s raised is }
+fresh_changed f g (Put (Record.Attempt x)) s raised before is = record { jobs = jobs_under f g s raised is; needs = needs_under f g s raised is; attempts = all_put (λ a. a.job < g.job) attempt_cmp x s.state.attempts (attempts_under f g s raised is) before; rows = rows_under f g s raised is }
+fresh_changed f g (Remove (Key.Job n)) s raised before is = record { jobs = all_filter (λ j. j.pipeline < g.pipeline) (λ j. not (is_eq (nat_cmp j.id n))) s.state.jobs (jobs_under f g s raised is); needs = needs_under f g s raised is; attempts = attempts_under f g s raised is; rows = rows_under f g s raised is }
+fresh_changed f g (Remove (Key.Need n p)) s raised before is = record { jobs = jobs_under f g s raised is; needs = all_filter (λ w. w.job < g.job) (λ w. not (is_eq (ordering_then (nat_cmp w.job n) (nat_cmp w.pred p)))) s.state.needs (needs_under f g s raised is); attempts = attempts_under f g s raised is; rows = rows_under f g s raised is }
+fresh_changed f g (Remove (Key.Needs n)) s raised before is = record { jobs = jobs_under f g s raised is; needs = all_filter (λ w. w.job < g.job) (λ w. not (is_eq (nat_cmp w.job n))) s.state.needs (needs_under f g s raised is); attempts = attempts_under f g s raised is; rows = rows_under f g s raised is }
+fresh_changed f g (Remove (Key.Attempt n)) s raised before is = record { jobs = jobs_under f g s raised is; needs = needs_under f g s raised is; attempts = all_filter (λ a. a.job < g.job) (λ a. not (is_eq (nat_cmp a.id n))) s.state.attempts (attempts_under f g s raised is); rows = rows_under f g s raised is }
 fresh_changed f g _ s raised before is = record { jobs = jobs_under f g s raised is; needs = needs_under f g s raised is; attempts = attempts_under f g s raised is; rows = rows_under f g s raised is }
 
 -- a row that is put

@@ -1,7 +1,6 @@
 -- What stays of the pipelines that are remembered where one more is learned.
-use Rattle.std.specs.Prelude.{◌≡◌, ◌<◌, ◌++◌, ◌∷◌, [], ◌||◌, ℕ, suc, nat_lt, Bool, true, false, List, length, take, drop, All, Contains, slice_index_or}
+use Rattle.std.proofs.Common.{◌≡◌, ◌<◌, ◌++◌, ◌∷◌, [], ◌||◌, ℕ, suc, nat_lt, Bool, true, false, List, length, take, drop, All, Contains, slice_index_or, sym, ap, ◌∙◌, ltb-true}
 use Rattle.std.specs.List.{prefix_len, remove}
-use Rattle.std.proofs.Common.{sym, ap, ◌∙◌, ltb-true}
 use Rattle.std.proofs.lemmas.Bool.{cond_both, both_ways, false≢true}
 use Rattle.std.proofs.lemmas.Grind.{in_remove}
 use Rattle.std.proofs.lemmas.List.Elements.{All-append, All-drop, All-push, All-take, Contains-append_left}

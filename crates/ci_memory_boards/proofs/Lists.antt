@@ -1,12 +1,10 @@
 -- Records that pass a test, where another one is put.
-use Rattle.std.specs.Prelude.{◌≡◌, ◌⊎◌, ℕ, zero, suc, Bool, true, false, cond, not, List, [], ◌∷◌, ◌++◌, ◌&&◌, filter, find, drop, All, Option, Some, None, IfSome, OnSome, option_to_list, Result, Ok, Err, is_ok}
+use Rattle.std.proofs.Common.{◌≡◌, ◌⊎◌, ℕ, zero, suc, Bool, true, false, cond, not, List, [], ◌∷◌, ◌++◌, ◌&&◌, filter, find, drop, All, Option, Some, None, IfSome, OnSome}
+use Rattle.std.proofs.Common.{option_to_list, Result, Ok, Err, is_ok, Ordering, is_eq, is_lt, refl, sym, ap, subst, ◌∙◌, inl, inr, ⊎_elim}
 use Rattle.std.specs.Result.{result_ok}
-use Rattle.std.specs.declared.cmp.Ordering.{Ordering}
-use Rattle.std.specs.Ordering.{is_eq, is_lt}
-use Rattle.std.proofs.Common.{refl, sym, ap, subst, ◌∙◌, inl, inr, ⊎_elim}
 use Rattle.std.proofs.lemmas.List.{append-nil}
 use Rattle.std.proofs.lemmas.Bool.{cond_both, cond-false, false≢true}
-use Rattle.ci_machine.specs.State.{placed, others, put}
+use Rattle.ci_machine_steps.specs.Prelude.{placed, others, put}
 use Rattle.ci_machine.proofs.Filters.{filter_implied}
 use Rattle.ci_machine.proofs.Keyed.{Has, has_find, has_put, has_from_all, All-from_has}
 

@@ -1,12 +1,10 @@
 -- Records put among others by their numbers, and what passes a test of them.
-use Rattle.std.specs.Prelude.{◌≡◌, ℕ, suc, ◌+◌, ◌≤◌, nat_lt, ◌==◌, ◌&&◌, Bool, true, false, cond, not, List, [], ◌∷◌, insert, filter}
-use Rattle.std.specs.declared.cmp.Ordering.{Ordering}
-use Rattle.std.specs.Ordering.{nat_cmp, is_eq, is_lt}
+use Rattle.std.proofs.Common.{◌≡◌, ℕ, suc, ◌+◌, ◌≤◌, nat_lt, ◌==◌, ◌&&◌, Bool, true, false, cond, not, List, [], ◌∷◌, insert, filter, Ordering, nat_cmp, is_eq, is_lt, refl, sym}
+use Rattle.std.proofs.Common.{ap, ◌∙◌, inl, ⊎_elim, arith}
 use Rattle.std.specs.List.{prefix_len}
-use Rattle.std.proofs.Common.{refl, sym, ap, ◌∙◌, inl, ⊎_elim, arith}
 use Rattle.std.proofs.lemmas.Bool.{cond-true, cond-false, cases_Bool}
 use Rattle.std.proofs.lemmas.Bool.Decides.{nat_tests}
-use Rattle.ci_machine.specs.State.{placed, others, put}
+use Rattle.ci_machine_steps.specs.Prelude.{placed, others, put}
 use Rattle.ci_machine.proofs.Filters.{filter_both, unlike}
 use Rattle.ci_machine.proofs.Keyed.{Has, Rising, rising_from, rising_filter, has_filter, less, not_less, filter_same}
 

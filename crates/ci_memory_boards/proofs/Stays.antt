@@ -1,25 +1,12 @@
 -- What changes leave as it is remembered.
-use Rattle.std.specs.Prelude.{◌≡◌, ◌==◌, ◌||◌, ℕ, Bool, true, false, not, List, [], ◌∷◌, filter, map, Option, Some, None, unwrap_or}
+use Rattle.std.proofs.Common.{◌≡◌, ◌==◌, ◌||◌, ℕ, Bool, true, false, not, List, [], ◌∷◌, filter, map, Option, Some, None, unwrap_or, Ordering, Less, Equal, Greater, nat_cmp, is_eq}
+use Rattle.std.proofs.Common.{refl, sym, ap, subst, ◌∙◌, ⊎_elim, eq-eqb, arith}
 use Rattle.std.specs.List.{list_any}
 use Rattle.std.specs.List.Sorted.{IsStrictlySortedBy}
-use Rattle.std.specs.declared.cmp.Ordering.{Ordering}
-use Rattle.std.specs.declared.cmp.Ordering.TheVariants.{Less, Equal, Greater}
-use Rattle.std.specs.Ordering.{nat_cmp, is_eq, ordering_then}
-use Rattle.std.proofs.Common.{refl, sym, ap, subst, ◌∙◌, ⊎_elim, eq-eqb, arith}
+use Rattle.std.specs.Ordering.{ordering_then}
 use Rattle.std.proofs.lemmas.Bool.{cond_both, false≢true}
-use Rattle.ci_machine.specs.declared.change.IndexChange.{IndexChange}
-use Rattle.ci_machine.specs.declared.change.Key.TheVariants as key
-use Rattle.ci_machine.specs.declared.change.Record.TheVariants as row
-use Rattle.ci_machine.specs.declared.change.RowChange.{RowChange}
-use Rattle.ci_machine.specs.declared.change.RowChange.TheVariants.{Put, Remove}
-use Rattle.ci_machine.specs.declared.records.Attempt.{Attempt}
-use Rattle.ci_machine.specs.declared.records.BoardRow.{BoardRow}
-use Rattle.ci_machine.specs.declared.records.Job.{Job}
-use Rattle.ci_machine.specs.declared.records.Need.{Need}
-use Rattle.ci_machine.specs.Kept.{Kept, row_cmp, put_rows, cleared, written}
-use Rattle.ci_machine.specs.Ranges.{is_within, needs_within, attempts_within, rows_within}
-use Rattle.ci_machine.specs.State.{State, job_cmp, need_cmp, attempt_cmp, put, without, without_all, changed, applied}
-use Rattle.ci_machine.specs.Statuses.{jobs_of}
+use Rattle.ci_machine_steps.specs.Prelude.{IndexChange, Key, Record, RowChange, Put, Remove, Attempt, BoardRow, Job, Need, Kept, row_cmp, put_rows, cleared, written, is_within}
+use Rattle.ci_machine_steps.specs.Prelude.{needs_within, attempts_within, rows_within, State, job_cmp, need_cmp, attempt_cmp, put, without, without_all, changed, applied, jobs_of}
 use Rattle.ci_machine.proofs.Filters.{filter_implied}
 use Rattle.ci_machine.proofs.Keyed.{Has, Rising, filter_has, has_from_all, rising_put, rising_filter, unequal}
 use Rattle.ci_machine_steps.proofs.Sound.{ascend_from_rising, rising_from_ascend}
@@ -27,7 +14,7 @@ use Rattle.ci_server_lookups.proofs.Changes.{state_stays, board_stays}
 use Rattle.ci_memory_boards.specs.Order.{InOrder}
 use Rattle.ci_server_lookups.specs.declared.sheet.Sheet.{Sheet}
 use Rattle.ci_memory_boards.specs.Sheets.{owns, own_job, touches, attempt_put}
-use Rattle.ci_server_lookups.specs.Sheets.{IsRight}
+use Rattle.ci_server_lookups.specs.Prelude.{IsRight}
 use Rattle.ci_memory_boards.proofs.Lists.{other_put}
 
 -- of two truths of which neither holds
@@ -95,7 +82,7 @@ module _ (m : Sheet) (k : Kept) (right : IsRight m k) where
   with_attempts xs same = record { jobs = right.jobs; inside = right.inside; needs = right.needs; attempts = right.attempts ∙ sym same; rows = right.rows; graph = right.graph }
 
   -- an attempt that is none of those of its jobs, before or after
-  pub attempt_elsewhere : (x : Attempt) → is_within m.first m.last x.job ≡ false → list_any (λ a. a.id == x.id) m.attempts.items ≡ false → IsRight m (record k { state = changed (Put (row.Attempt x)) k.state })
+  pub attempt_elsewhere : (x : Attempt) → is_within m.first m.last x.job ≡ false → list_any (λ a. a.id == x.id) m.attempts.items ≡ false → IsRight m (record k { state = changed (Put (Record.Attempt x)) k.state })
   attempt_elsewhere x outside none =
       with_attempts (put attempt_cmp x k.state.attempts)
       (other_put attempt_cmp of_attempt x k.state.attempts outside
@@ -103,33 +90,33 @@ module _ (m : Sheet) (k : Kept) (right : IsRight m k) where
 
   -- a change that doesn't touch it, and puts no attempt
   pub stays : (c : RowChange) → touches m c ≡ false → attempt_put c ≡ None → IsRight m (record k { state = changed c k.state })
-  stays (Put (row.Job x)) e never =
+  stays (Put (Record.Job x)) e never =
       with_jobs (put job_cmp x k.state.jobs)
       (other_put job_cmp its x k.state.jobs (first (its x) (is_within m.first m.last x.id) e) (λ y has is. key_apart m.first m.last y.id x.id (inside y has is) (later (its x) (is_within m.first m.last x.id) e)))
-  stays (Put (row.Need x)) e never = with_needs (put need_cmp x k.state.needs) (other_put need_cmp of_need x k.state.needs e (λ y has is. then_apart m.first m.last y.job x.job y.pred x.pred is e))
-  stays (Put (row.Attempt x)) e never = absurd (some_not_none never)
-  stays (Remove (key.Job n)) e never =
+  stays (Put (Record.Need x)) e never = with_needs (put need_cmp x k.state.needs) (other_put need_cmp of_need x k.state.needs e (λ y has is. then_apart m.first m.last y.job x.job y.pred x.pred is e))
+  stays (Put (Record.Attempt x)) e never = absurd (some_not_none never)
+  stays (Remove (Key.Job n)) e never =
       with_jobs (without (λ j. j.id) n k.state.jobs) (filter_implied its (λ y. not (is_eq (nat_cmp y.id n))) k.state.jobs (λ y has is. key_apart m.first m.last y.id n (inside y has is) e))
-  stays (Remove (key.Need n p)) e never =
+  stays (Remove (Key.Need n p)) e never =
       with_needs (filter (λ w. not (is_eq (ordering_then (nat_cmp w.job n) (nat_cmp w.pred p)))) k.state.needs)
       (filter_implied of_need (λ w. not (is_eq (ordering_then (nat_cmp w.job n) (nat_cmp w.pred p)))) k.state.needs (λ y has is. then_apart m.first m.last y.job n y.pred p is e))
-  stays (Remove (key.Needs n)) e never = with_needs (without (λ w. w.job) n k.state.needs) (filter_implied of_need (λ w. not (is_eq (nat_cmp w.job n))) k.state.needs (λ y has is. key_apart m.first m.last y.job n is e))
-  stays (Remove (key.Attempt n)) e never =
+  stays (Remove (Key.Needs n)) e never = with_needs (without (λ w. w.job) n k.state.needs) (filter_implied of_need (λ w. not (is_eq (nat_cmp w.job n))) k.state.needs (λ y has is. key_apart m.first m.last y.job n is e))
+  stays (Remove (Key.Attempt n)) e never =
       with_attempts (without (λ a. a.id) n k.state.attempts)
       (filter_implied of_attempt (λ a. not (is_eq (nat_cmp a.id n))) k.state.attempts
       (λ y has is. none_has n y m.attempts.items e (subst (λ (l : List Attempt). Has y l) (sym right.attempts) (filter_has of_attempt y k.state.attempts has is))))
   stays _ e never = record { jobs = right.jobs; inside = right.inside; needs = right.needs; attempts = right.attempts; rows = right.rows; graph = right.graph }
 
 -- the change that puts an attempt
-pub put_of : (c : RowChange) (a : Attempt) → attempt_put c ≡ Some a → c ≡ Put (row.Attempt a)
-put_of (Put (row.Attempt x)) a e = ap (λ (o : Attempt). Put (row.Attempt o)) (some_same e)
+pub put_of : (c : RowChange) (a : Attempt) → attempt_put c ≡ Some a → c ≡ Put (Record.Attempt a)
+put_of (Put (Record.Attempt x)) a e = ap (λ (o : Attempt). Put (Record.Attempt o)) (some_same e)
 put_of _ a e = cc
 
 -- a job of the sheet's own that the change puts
-pub own_job_of : (m : Sheet) (c : RowChange) (j : Job) → own_job m c ≡ Some j → (c ≡ Put (row.Job j)) × (owns m j ≡ true)
-own_job_of m (Put (row.Job x)) j e =
-    cond_both (owns m x) (Some x) None (λ o. o ≡ Some j → (Put (row.Job x) ≡ Put (row.Job j)) × (owns m j ≡ true))
-    (λ its is. let same : x ≡ j = some_same is in (ap (λ (y : Job). Put (row.Job y)) same, ap (owns m) (sym same) ∙ its))
+pub own_job_of : (m : Sheet) (c : RowChange) (j : Job) → own_job m c ≡ Some j → (c ≡ Put (Record.Job j)) × (owns m j ≡ true)
+own_job_of m (Put (Record.Job x)) j e =
+    cond_both (owns m x) (Some x) None (λ o. o ≡ Some j → (Put (Record.Job x) ≡ Put (Record.Job j)) × (owns m j ≡ true))
+    (λ its is. let same : x ≡ j = some_same is in (ap (λ (y : Job). Put (Record.Job y)) same, ap (owns m) (sym same) ∙ its))
     (λ _ is. absurd (some_not_none (sym is)))
     e
 own_job_of m _ j e = absurd (some_not_none (sym e))
@@ -142,15 +129,15 @@ AttemptsAscend s = IsStrictlySortedBy nat_cmp (map (λ a. a.id) s.attempts)
 abbrev by_id : Attempt → ℕ
 by_id a = a.id
 
-put_ascends : (x : Attempt) (s : State) → AttemptsAscend s → AttemptsAscend (changed (Put (row.Attempt x)) s)
+put_ascends : (x : Attempt) (s : State) → AttemptsAscend s → AttemptsAscend (changed (Put (Record.Attempt x)) s)
 put_ascends x s a = ascend_from_rising by_id 0 (put attempt_cmp x s.attempts) (rising_put by_id x 0 s.attempts (rising_from_ascend by_id s.attempts a) (omega arith))
 
-goes_ascends : (n : ℕ) (s : State) → AttemptsAscend s → AttemptsAscend (changed (Remove (key.Attempt n)) s)
+goes_ascends : (n : ℕ) (s : State) → AttemptsAscend s → AttemptsAscend (changed (Remove (Key.Attempt n)) s)
 goes_ascends n s a = ascend_from_rising by_id 0 (without by_id n s.attempts) (rising_filter by_id (λ x. not (is_eq (nat_cmp x.id n))) 0 s.attempts (rising_from_ascend by_id s.attempts a))
 
 one_ascends : (c : RowChange) (s : State) → AttemptsAscend s → AttemptsAscend (changed c s)
-one_ascends (Put (row.Attempt x)) s a = put_ascends x s a
-one_ascends (Remove (key.Attempt n)) s a = goes_ascends n s a
+one_ascends (Put (Record.Attempt x)) s a = put_ascends x s a
+one_ascends (Remove (Key.Attempt n)) s a = goes_ascends n s a
 one_ascends _ s a = a
 
 pub all_ascend : (cs : List RowChange) (s : State) → AttemptsAscend s → AttemptsAscend (applied cs s)
@@ -165,15 +152,15 @@ JobsAscend s = IsStrictlySortedBy nat_cmp (map (λ j. j.id) s.jobs)
 abbrev job_id : Job → ℕ
 job_id j = j.id
 
-put_job_ascends : (x : Job) (s : State) → JobsAscend s → JobsAscend (changed (Put (row.Job x)) s)
+put_job_ascends : (x : Job) (s : State) → JobsAscend s → JobsAscend (changed (Put (Record.Job x)) s)
 put_job_ascends x s a = ascend_from_rising job_id 0 (put job_cmp x s.jobs) (rising_put job_id x 0 s.jobs (rising_from_ascend job_id s.jobs a) (omega arith))
 
-job_goes_ascends : (n : ℕ) (s : State) → JobsAscend s → JobsAscend (changed (Remove (key.Job n)) s)
+job_goes_ascends : (n : ℕ) (s : State) → JobsAscend s → JobsAscend (changed (Remove (Key.Job n)) s)
 job_goes_ascends n s a = ascend_from_rising job_id 0 (without job_id n s.jobs) (rising_filter job_id (λ x. not (is_eq (nat_cmp x.id n))) 0 s.jobs (rising_from_ascend job_id s.jobs a))
 
 one_job_ascends : (c : RowChange) (s : State) → JobsAscend s → JobsAscend (changed c s)
-one_job_ascends (Put (row.Job x)) s a = put_job_ascends x s a
-one_job_ascends (Remove (key.Job n)) s a = job_goes_ascends n s a
+one_job_ascends (Put (Record.Job x)) s a = put_job_ascends x s a
+one_job_ascends (Remove (Key.Job n)) s a = job_goes_ascends n s a
 one_job_ascends _ s a = a
 
 pub all_jobs_ascend : (cs : List RowChange) (s : State) → JobsAscend s → JobsAscend (applied cs s)

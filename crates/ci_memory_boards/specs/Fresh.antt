@@ -1,9 +1,6 @@
 -- From which numbers on pipelines and jobs are new.
 use Rattle.std.specs.Prelude.{◌≤◌, ◌<◌, All}
-use Rattle.ci_machine.specs.Kept.{Kept}
-use Rattle.ci_machine.specs.declared.change.Record.TheVariants as row
-use Rattle.ci_machine.specs.declared.change.RowChange.{RowChange}
-use Rattle.ci_machine.specs.declared.change.RowChange.TheVariants.{Put}
+use Rattle.ci_machine_steps.specs.Prelude.{Kept, Record, RowChange, Put}
 use Rattle.ci_memory_boards.specs.declared.fresh.Fresh.{Fresh}
 
 -- no job is of a pipeline from the one number on, and no need, attempt or row of a job from the other on
@@ -19,7 +16,7 @@ IsNoLess f g = (f.pipeline ≤ g.pipeline) × (f.job ≤ g.job)
 
 -- what the change puts is of a pipeline or of a job before them
 abbrev pub IsBefore : RowChange → Fresh → Type 0
-IsBefore (Put (row.Job j)) f = j.pipeline < f.pipeline
-IsBefore (Put (row.Need w)) f = w.job < f.job
-IsBefore (Put (row.Attempt a)) f = a.job < f.job
+IsBefore (Put (Record.Job j)) f = j.pipeline < f.pipeline
+IsBefore (Put (Record.Need w)) f = w.job < f.job
+IsBefore (Put (Record.Attempt a)) f = a.job < f.job
 IsBefore _ f = Unit {0}

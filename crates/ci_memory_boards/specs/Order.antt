@@ -2,7 +2,7 @@
 use Rattle.std.specs.Prelude.{map}
 use Rattle.std.specs.Ordering.{nat_cmp}
 use Rattle.std.specs.List.Sorted.{IsStrictlySortedBy}
-use Rattle.ci_machine.specs.Kept.{Kept}
+use Rattle.ci_machine_steps.specs.Prelude.{Kept}
 
 -- jobs and attempts stand by their numbers, and rows of statuses by their jobs, as those of tables do
 pub record InOrder (k : Kept) : Type 0 where

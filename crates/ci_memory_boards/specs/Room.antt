@@ -1,8 +1,7 @@
 -- Which of the pipelines that are remembered makes room for another one.
 use Rattle.std.specs.Prelude.{ℕ, nat_lt, ◌||◌, if◌then◌else◌, Bool, true, false, List, length}
 use Rattle.std.specs.List.{list_any, prefix_len, remove}
-use Rattle.ci_board.specs.declared.facts.Status.{Status}
-use Rattle.ci_board.specs.declared.facts.Status.TheVariants.{Pending, Running}
+use Rattle.ci_machine_steps.specs.Prelude.{Status, Pending, Running}
 use Rattle.ci_server_lookups.specs.declared.sheet.Sheet.{Sheet}
 
 -- the status of a job that a runner has or may take

@@ -1,18 +1,14 @@
 //! What is remembered still of a pipeline after a commit.
 
-ghost use Rattle.std.specs.Prelude.{◌≡◌, ◌==◌, ℕ, List, None, map, IfSome, OnSome};
+ghost use Rattle.std.specs.Prelude.{◌≡◌, ◌==◌, ℕ, List, None, map, IfSome, OnSome, option_copied};
 ghost use Rattle.std.specs.List.{list_any};
-ghost use Rattle.std.specs.Option.{option_copied};
 ghost use Rattle.std.specs.Ordering.{nat_cmp};
 ghost use Rattle.std.specs.List.Sorted.{IsStrictlySortedBy};
-ghost use Rattle.ci_machine.specs.declared.change.IndexChange.{IndexChange};
+ghost use Rattle.ci_machine_steps.specs.Prelude.{IndexChange, Kept, row_cmp, put_rows, cleared, written, is_within, job_cmp, attempt_cmp, put, with_record, changed, applied};
 ghost use Rattle.ci_machine.specs.declared.change.Record.TheVariants as row;
-ghost use Rattle.ci_machine.specs.Kept.{Kept, row_cmp, put_rows, cleared, written};
-ghost use Rattle.ci_machine.specs.Ranges.{is_within};
-ghost use Rattle.ci_machine.specs.State.{job_cmp, attempt_cmp, put, with_record, changed, applied};
 ghost use Rattle.ci_memory_boards.specs.Order.{InOrder};
 ghost use Rattle.ci_memory_boards.specs.Sheets.{attempt_put};
-ghost use Rattle.ci_server_lookups.specs.Sheets.{IsRight};
+ghost use Rattle.ci_server_lookups.specs.Prelude.{IsRight};
 
 use crate::puts::put_record;
 use crate::touch::{own_job, touches};

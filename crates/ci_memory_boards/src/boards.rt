@@ -1,19 +1,14 @@
 //! What is remembered of pipelines.
 
-ghost use Rattle.std.specs.Prelude.{◌≡◌, ◌==◌, ◌&&◌, ◌++◌, ◌∷◌, [], ℕ, List, true, All, Contains, Some, find, option_to_list, IfSome, OnSome};
-ghost use Rattle.std.specs.List.Sorted.{IsPermutation};
-ghost use Rattle.std.specs.Option.{option_copied};
-ghost use Rattle.ci_machine.specs.declared.change.IndexChange.{IndexChange};
-ghost use Rattle.ci_machine.specs.Kept.{Kept, cleared, written};
-ghost use Rattle.ci_machine.specs.Lookups.{job_at, attempt_at};
-ghost use Rattle.ci_machine.specs.Ranges.{needs_within, attempts_within, rows_within, row_at};
-ghost use Rattle.ci_machine.specs.Statuses.{jobs_of};
+ghost use Rattle.std.specs.Prelude.{◌≡◌, ◌==◌, ◌&&◌, ◌++◌, ◌∷◌, [], ℕ, List, true, All, Contains, Some, find, option_to_list, IfSome, OnSome, IsPermutation, option_copied};
+ghost use Rattle.ci_machine_steps.specs.Prelude.{IndexChange, Kept, cleared, written, job_at, attempt_at, needs_within, attempts_within, rows_within, jobs_of};
+ghost use Rattle.ci_store.specs.Prelude.{row_at};
 ghost use Rattle.ci_memory_boards.specs.Fresh.{IsFresh};
 ghost use Rattle.ci_memory_boards.specs.Order.{InOrder};
 ghost use Rattle.ci_memory_boards.specs.Room.{has_room, is_under_way, with_room};
 ghost use Rattle.ci_memory_boards.specs.Sheets.{AreRight};
 ghost use Rattle.ci_server_lookups.specs.declared.sheet.Sheet.{Sheet};
-ghost use Rattle.ci_server_lookups.specs.Sheets.{IsRight};
+ghost use Rattle.ci_server_lookups.specs.Prelude.{IsRight};
 
 use crate::after::sheet_after;
 use crate::fresh::Fresh;

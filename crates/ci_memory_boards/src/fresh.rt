@@ -1,11 +1,9 @@
 //! From which numbers on pipelines and jobs are new: so all records of one that comes to be are known without a look-up.
 
 ghost use Rattle.std.specs.Prelude.{◌≡◌, ◌≤◌, ◌<◌, [], ℕ, List, None, IfSome, IsTrue};
-ghost use Rattle.ci_machine.specs.declared.change.IndexChange.{IndexChange};
-ghost use Rattle.ci_machine.specs.Kept.{Kept, put_rows, cleared, written};
-ghost use Rattle.ci_machine.specs.State.{changed, applied};
+ghost use Rattle.ci_machine_steps.specs.Prelude.{IndexChange, Kept, put_rows, cleared, written, changed, applied};
 ghost use Rattle.ci_memory_boards.specs.Fresh.{IsFresh, IsNoLess, IsBefore};
-ghost use Rattle.ci_server_lookups.specs.Sheets.{IsRight};
+ghost use Rattle.ci_server_lookups.specs.Prelude.{IsRight};
 
 use ci_machine::change::{Record, RowChange};
 use ci_machine::records::{BoardRow, Job};

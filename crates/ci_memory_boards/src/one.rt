@@ -1,13 +1,11 @@
 //! One record of those that are remembered, by its number.
 
-ghost use Rattle.std.specs.Prelude.{◌≡◌, ◌==◌, All, Some, find, IfSome};
+ghost use Rattle.std.specs.Prelude.{◌≡◌, ◌==◌, All, Some, find, IfSome, option_copied};
 ghost use Rattle.std.specs.List.{list_any};
-ghost use Rattle.std.specs.Option.{option_copied};
-ghost use Rattle.ci_machine.specs.Kept.{Kept};
-ghost use Rattle.ci_machine.specs.Lookups.{job_at, attempt_at};
-ghost use Rattle.ci_machine.specs.Ranges.{is_within, row_at};
+ghost use Rattle.ci_machine_steps.specs.Prelude.{Kept, job_at, attempt_at, is_within};
+ghost use Rattle.ci_store.specs.Prelude.{row_at};
 ghost use Rattle.ci_memory_boards.specs.Order.{InOrder};
-ghost use Rattle.ci_server_lookups.specs.Sheets.{IsRight};
+ghost use Rattle.ci_server_lookups.specs.Prelude.{IsRight};
 
 use ci_machine::records::{Attempt, BoardRow, Job};
 use ci_server_lookups::sheet::Sheet;

@@ -3,7 +3,7 @@
 ghost use Rattle.std.specs.Prelude.{◌≡◌, ◌≤◌, ◌==◌, ℕ, not, filter, length, nat_lt, OnSome};
 ghost use Rattle.std.specs.List.{prefix_len};
 ghost use Rattle.std.specs.Ordering.{nat_cmp};
-ghost use Rattle.ci_machine.specs.State.{put};
+ghost use Rattle.ci_machine_steps.specs.Prelude.{put};
 
 use ci_machine::records::{Attempt, BoardRow, Job};
 

@@ -1,7 +1,6 @@
 //! Which changes are of what is remembered of a pipeline.
 
-ghost use Rattle.std.specs.Prelude.{◌≡◌};
-ghost use Rattle.std.specs.Option.{option_copied};
+ghost use Rattle.std.specs.Prelude.{◌≡◌, option_copied};
 ghost use Rattle.ci_memory_boards.specs.Sheets.{owns, own_job, touches};
 
 use ci_machine::change::{Key, Record, RowChange};

@@ -1,18 +1,7 @@
 -- What is remembered of the pending jobs is right after a commit.
-use Rattle.std.specs.Prelude.{◌≡◌, ℕ, ◌≤◌, Bool, List, Option, Some, None, IfSome, option_map, option_and_then}
-use Rattle.std.proofs.Common.{refl, sym, ap, subst, ◌∙◌}
-use Rattle.ci_board.specs.declared.facts.Status.TheVariants.{Pending}
-use Rattle.ci_board.specs.Effects.{is_status}
-use Rattle.ci_machine.specs.declared.records.BoardRow.{BoardRow}
-use Rattle.ci_machine.specs.declared.records.GroupOrder.TheVariants.{NewestReadyFirst}
-use Rattle.ci_machine.specs.declared.records.Job.{Job}
-use Rattle.ci_machine.specs.declared.records.Pipeline.{Pipeline}
-use Rattle.ci_machine.specs.declared.change.RowChange.{RowChange}
-use Rattle.ci_machine.specs.declared.change.IndexChange.{IndexChange}
-use Rattle.ci_machine.specs.State.{State}
-use Rattle.ci_machine.specs.Kept.{Kept, cleared, written}
-use Rattle.ci_machine.specs.Statuses.{row_or_none}
-use Rattle.ci_machine.specs.Lookups.{job_at, pipeline_at}
+use Rattle.std.proofs.Common.{◌≡◌, ℕ, ◌≤◌, Bool, List, Option, Some, None, IfSome, option_map, option_and_then, refl, sym, ap, subst, ◌∙◌}
+use Rattle.ci_machine_steps.specs.Prelude.{Pending, is_status, BoardRow, NewestReadyFirst, Job, Pipeline, RowChange, IndexChange, State, Kept, cleared, written, row_or_none}
+use Rattle.ci_machine_steps.specs.Prelude.{job_at, pipeline_at}
 use Rattle.ci_memory_queue.specs.declared.queue.Class.{Class}
 use Rattle.ci_memory_queue.specs.Covers.{asked_by, IsSorted, Covers, IsRight}
 use Rattle.ci_memory_queue.specs.Known.{Known}

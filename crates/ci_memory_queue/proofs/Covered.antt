@@ -1,23 +1,13 @@
 -- The jobs that wait, as they are noted, sorted into lines, and found there.
-use Rattle.std.specs.Prelude.{◌≡◌, ℕ, ◌+◌, ◌<◌, ◌≤◌, Bool, true, List, [], ◌++◌, length, map, drop, slice_index_or, Contains, Option, Some, None, IfSome, Result, Ok}
-use Rattle.std.proofs.Common.{refl, sym, subst, ◌∙◌, inl, inr, ⊎_elim, arith}
+use Rattle.std.proofs.Common.{◌≡◌, ℕ, ◌+◌, ◌<◌, ◌≤◌, Bool, true, List, [], ◌++◌, length, map, drop, slice_index_or, Contains, Option, Some, None, IfSome, Result, Ok, refl, sym}
+use Rattle.std.proofs.Common.{subst, ◌∙◌, inl, inr, ⊎_elim, arith}
 use Rattle.std.proofs.lemmas.Bool.{or_cases, false≢true}
 use Rattle.std.proofs.lemmas.List.{drop_more}
-use Rattle.ci_board.specs.declared.facts.Status.TheVariants.{Created, Pending}
-use Rattle.ci_board.specs.Effects.{is_status}
-use Rattle.ci_machine.specs.declared.records.BoardRow.{BoardRow}
-use Rattle.ci_machine.specs.declared.records.GroupOrder.{GroupOrder}
-use Rattle.ci_machine.specs.declared.records.GroupOrder.TheVariants.{OldestFirst, NewestReadyFirst}
-use Rattle.ci_machine.specs.Kept.{Kept}
-use Rattle.ci_machine.specs.Ranges.{row_at, rows_with}
-use Rattle.ci_machine.specs.State.{State}
-use Rattle.ci_machine.specs.Waiting.{waiting}
+use Rattle.ci_machine_steps.specs.Prelude.{Created, Pending, is_status, BoardRow, GroupOrder, OldestFirst, NewestReadyFirst, Kept, rows_with, State, waiting}
+use Rattle.ci_store.specs.Prelude.{row_at, LoadsBy}
 use Rattle.ci_machine.proofs.Keyed.{Has, has_from_contains, contains_from_has}
 use Rattle.ci_machine_steps.proofs.Behind.{has_left, has_right}
-use Rattle.ci_store.specs.declared.fault.StoreFault.{StoreFault}
-use Rattle.ci_store.specs.Store.{LoadsBy}
-use Rattle.ci_server_lookups.specs.Keeps.{IsKept}
-use Rattle.ci_server_lookups.specs.Turns.{IsTurn}
+use Rattle.ci_server_lookups.specs.Prelude.{StoreFault, IsKept, IsTurn}
 use Rattle.ci_server_lookups.proofs.Loading.{so}
 use Rattle.ci_memory_queue.specs.declared.lines.Line.{Line}
 use Rattle.ci_memory_queue.specs.declared.lines.Place.{Place}

@@ -1,28 +1,16 @@
 -- The least of the pending jobs that a runner may be given, by classes, is the first of the queue that it may be given.
-use Rattle.std.specs.Prelude.{◌≡◌, ℕ, ◌+◌, ◌≤◌, Bool, true, ◌&&◌, ◌==◌, cond, false, length, drop, slice_index_or, ◌<◌, List, [], ◌∷◌, map, filter, find, Option, Some, None, IfSome, option_map, option_and_then, Result, Ok}
-use Rattle.std.proofs.Common.{refl, sym, ap, subst, ◌∙◌, inl, inr, ⊎_elim, arith, eqb-true}
+use Rattle.std.proofs.Common.{◌≡◌, ℕ, ◌+◌, ◌≤◌, Bool, true, ◌&&◌, ◌==◌, cond, false, length, drop, slice_index_or, ◌<◌, List, [], ◌∷◌, map, filter, find, Option, Some, None}
+use Rattle.std.proofs.Common.{IfSome, option_map, option_and_then, Result, Ok, refl, sym, ap, subst, ◌∙◌, inl, inr, ⊎_elim, arith, eqb-true}
 use Rattle.std.proofs.lemmas.Bool.{and_parts, both_ways, cases_Bool, cond_both}
 use Rattle.std.proofs.lemmas.List.{drop_more}
-use Rattle.ci_machine.specs.declared.records.Job.{Job}
-use Rattle.ci_machine.specs.declared.records.Pipeline.{Pipeline}
-use Rattle.ci_machine.specs.declared.records.BoardRow.{BoardRow}
-use Rattle.ci_machine.specs.declared.records.QueuedJob.{QueuedJob}
-use Rattle.ci_machine.specs.declared.records.Runner.{Runner}
-use Rattle.ci_machine.specs.Eligible.{may_run, is_free, is_eligible, chosen}
-use Rattle.ci_machine.specs.Waiting.{groups_in, claims_in}
-use Rattle.ci_machine.specs.State.{State}
-use Rattle.ci_machine.specs.Kept.{Kept}
-use Rattle.ci_machine.specs.Statuses.{row_for, row_or_none}
-use Rattle.ci_machine.specs.Lookups.{job_at, pipeline_at, is_pending, queued, queue, project_or_none}
+use Rattle.ci_machine_steps.specs.Prelude.{Job, Pipeline, BoardRow, QueuedJob, Runner, may_run, is_free, is_eligible, chosen, groups_in, claims_in, State, Kept, row_for}
+use Rattle.ci_machine_steps.specs.Prelude.{row_or_none, job_at, pipeline_at, is_pending, queued, queue, project_or_none, pipeline_or_none}
 use Rattle.ci_machine.proofs.Keyed.{Has, Rising, rising_filter, has_filter, filter_has, has_find, find_has, rising_from, has_from_contains, contains_from_has}
-use Rattle.ci_machine_steps.specs.Step.{pipeline_or_none}
 use Rattle.ci_machine_steps.proofs.Sound.{sound}
-use Rattle.ci_store.specs.declared.fault.StoreFault.{StoreFault}
-use Rattle.ci_store.specs.Store.{LoadsBy}
+use Rattle.ci_server_lookups.specs.Prelude.{StoreFault, IsKept, IsOffered}
+use Rattle.ci_store.specs.Prelude.{LoadsBy}
 use Rattle.ci_server_lookups.proofs.Loading.{so}
 use Rattle.ci_server_lookups.specs.declared.search.Offer.{Offer}
-use Rattle.ci_server_lookups.specs.Keeps.{IsKept}
-use Rattle.ci_server_lookups.specs.Search.{IsOffered}
 use Rattle.ci_memory_queue.specs.declared.queue.Asks.{Asks}
 use Rattle.ci_memory_queue.specs.declared.queue.Class.{Class}
 use Rattle.ci_memory_queue.specs.Known.{Known}

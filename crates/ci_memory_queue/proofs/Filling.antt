@@ -1,14 +1,8 @@
 -- The jobs with a status, as they are noted to begin with.
-use Rattle.std.specs.Prelude.{◌≡◌, ℕ, ◌≤◌, true, ◌==◌, List, ◌++◌, map, Contains, Option, Some, None}
-use Rattle.std.proofs.Common.{refl, sym, subst, inl, eqb-true}
+use Rattle.std.proofs.Common.{◌≡◌, ℕ, ◌≤◌, true, ◌==◌, List, ◌++◌, map, Contains, Option, Some, None, refl, sym, subst, inl, eqb-true}
 use Rattle.std.proofs.lemmas.Bool.{false≢true}
-use Rattle.ci_board.specs.declared.facts.Status.{Status}
-use Rattle.ci_board.specs.declared.facts.Status.TheVariants.{Pending}
-use Rattle.ci_board.specs.Effects.{is_status}
-use Rattle.ci_machine.specs.declared.records.BoardRow.{BoardRow}
-use Rattle.ci_machine.specs.Ranges.{row_at, rows_with}
-use Rattle.ci_machine.specs.State.{State}
-use Rattle.ci_machine.specs.Statuses.{row_or_none}
+use Rattle.ci_machine_steps.specs.Prelude.{Status, Pending, is_status, BoardRow, rows_with, State, row_or_none}
+use Rattle.ci_store.specs.Prelude.{row_at}
 use Rattle.ci_machine.proofs.Keyed.{Has, has_find, has_map, filter_has, contains_from_has}
 use Rattle.ci_machine_steps.proofs.Behind.{has_right}
 use Rattle.ci_memory_queue.specs.declared.queue.Class.{Class}

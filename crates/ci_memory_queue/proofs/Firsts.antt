@@ -1,12 +1,7 @@
 -- The first of some jobs that is pending and asks what they ask.
-use Rattle.std.specs.Prelude.{◌≡◌, ℕ, ◌<◌, ◌≤◌, Bool, true, false, if◌then◌else◌, ◌==◌, List, Contains, Option, Some, None, is_some}
-use Rattle.std.proofs.Common.{refl, sym, ap, ◌∙◌, arith, eqb-true}
-use Rattle.ci_board.specs.declared.facts.Status.TheVariants.{Pending}
-use Rattle.ci_board.specs.Effects.{is_status}
-use Rattle.ci_machine.specs.declared.records.BoardRow.{BoardRow}
-use Rattle.ci_machine.specs.Kept.{Kept}
-use Rattle.ci_machine.specs.Ranges.{row_at}
-use Rattle.ci_machine.specs.Statuses.{row_or_none}
+use Rattle.std.proofs.Common.{◌≡◌, ℕ, ◌<◌, ◌≤◌, Bool, true, false, if◌then◌else◌, ◌==◌, List, Contains, Option, Some, None, is_some, refl, sym, ap, ◌∙◌, arith, eqb-true}
+use Rattle.ci_machine_steps.specs.Prelude.{Pending, is_status, BoardRow, Kept, row_or_none}
+use Rattle.ci_store.specs.Prelude.{row_at}
 use Rattle.ci_machine.proofs.Keyed.{has_find}
 use Rattle.ci_server_lookups.specs.declared.search.Offer.{Offer}
 use Rattle.ci_memory_queue.specs.declared.queue.Asks.{Asks}

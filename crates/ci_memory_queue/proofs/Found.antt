@@ -1,11 +1,9 @@
 -- What is found by a number in a list that a record is put into, or that those of a number are taken out of. The list's order is nothing
 -- to it.
-use Rattle.std.specs.Prelude.{◌≡◌, ℕ, Bool, true, false, cond, not, ◌==◌, List, [], ◌∷◌, filter, find, Option, Some, None}
-use Rattle.std.specs.Ordering.{nat_cmp, is_eq, is_lt}
-use Rattle.std.specs.declared.cmp.Ordering.{Ordering}
-use Rattle.std.proofs.Common.{refl, sym, ap, ◌∙◌, inl, inr, ⊎_elim, eqb-true, eq-eqb, ne_eqb}
+use Rattle.std.proofs.Common.{◌≡◌, ℕ, Bool, true, false, cond, not, ◌==◌, List, [], ◌∷◌, filter, find, Option, Some, None, nat_cmp, is_eq, is_lt, Ordering, refl, sym, ap, ◌∙◌, inl}
+use Rattle.std.proofs.Common.{inr, ⊎_elim, eqb-true, eq-eqb, ne_eqb}
 use Rattle.std.proofs.lemmas.Bool.{cond_both, cond-true, cond-false, both_ways, cases_Bool}
-use Rattle.ci_machine.specs.State.{placed, others, put, without}
+use Rattle.ci_machine_steps.specs.Prelude.{placed, others, put, without}
 use Rattle.ci_machine.proofs.Keyed.{Has, has_filter, different, unequal}
 
 module _ {A : Type 0} where

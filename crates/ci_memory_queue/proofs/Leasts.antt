@@ -1,10 +1,8 @@
 -- The least pending job of some classes that a runner may be given, class by class.
-use Rattle.std.specs.Prelude.{◌≡◌, ℕ, ◌+◌, ◌<◌, true, List, [], ◌∷◌, ◌++◌, length, take, Contains, Option, Some, None, slice_index_or, slice_set}
-use Rattle.std.proofs.Common.{sym, ap, subst, ◌∙◌, inl, inr, ⊎_elim}
+use Rattle.std.proofs.Common.{◌≡◌, ℕ, ◌+◌, ◌<◌, true, List, [], ◌∷◌, ◌++◌, length, take, Contains, Option, Some, None, slice_index_or, slice_set, sym, ap, subst, ◌∙◌, inl, inr}
+use Rattle.std.proofs.Common.{⊎_elim}
 use Rattle.std.proofs.lemmas.List.{take_more_set}
-use Rattle.ci_machine.specs.declared.records.Runner.{Runner}
-use Rattle.ci_machine.specs.Eligible.{may_run}
-use Rattle.ci_machine.specs.Kept.{Kept}
+use Rattle.ci_machine_steps.specs.Prelude.{Runner, may_run, Kept}
 use Rattle.ci_machine.proofs.Keyed.{has_from_contains}
 use Rattle.ci_machine_steps.proofs.Behind.{in_either}
 use Rattle.ci_server_lookups.specs.declared.search.Offer.{Offer}
@@ -32,12 +30,6 @@ module _ (k : Kept) (runner : Runner) (class : Class) (before : Option Offer) wh
 -- ---- all classes so far
 
 module _ (k : Kept) (runner : Runner) where
-  pub best_of_none : IsBest k runner [] None
-  best_of_none = record { may = tt; least = λ asks job among ready. absurd (none asks job among) }
-    where
-      none : (asks : Asks) (job : ℕ) → IsAmong [] asks job → ⊥
-      none asks job w = has_from_contains w.of [] w.there
-
   best_append : (classes : List Class) (class : Class) (before after : Option Offer) → IsBest k runner classes before → IsBetter k runner class before after → IsBest k runner (classes ++ class ∷ []) after
   best_append classes class before after best better = record {
     may = better.may best.may;

@@ -1,9 +1,6 @@
 -- The first job of a group along a line.
-use Rattle.std.specs.Prelude.{◌≡◌, ℕ, false, List, Contains, Option, Some, None, is_some}
-use Rattle.std.proofs.Common.{sym, ap, subst}
-use Rattle.ci_machine.specs.declared.records.GroupOrder.{GroupOrder}
-use Rattle.ci_machine.specs.declared.records.GroupOrder.TheVariants.{OldestFirst, NewestReadyFirst}
-use Rattle.ci_machine.specs.Kept.{Kept}
+use Rattle.std.proofs.Common.{◌≡◌, ℕ, false, List, Contains, Option, Some, None, is_some, sym, ap, subst}
+use Rattle.ci_machine_steps.specs.Prelude.{GroupOrder, OldestFirst, NewestReadyFirst, Kept}
 use Rattle.ci_memory_queue.specs.declared.lines.Line.{Line}
 use Rattle.ci_memory_queue.specs.LineCovers.{jobs_in}
 use Rattle.ci_memory_queue.specs.First.{IsInGroup, IsFoundAt, IsFirst}

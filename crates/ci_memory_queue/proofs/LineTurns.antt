@@ -1,31 +1,17 @@
 -- The first job of a group tells whose turn it is.
-use Rattle.std.specs.Prelude.{◌≡◌, ◌⊎◌, ℕ, ◌<◌, ◌≤◌, Bool, true, false, ◌&&◌, ◌==◌, nat_lt, List, find, Contains, Option, Some, None, option_map, option_and_then}
+use Rattle.std.proofs.Common.{◌≡◌, ◌⊎◌, ℕ, ◌<◌, ◌≤◌, Bool, true, false, ◌&&◌, ◌==◌, nat_lt, List, find, Contains, Option, Some, None, option_map, option_and_then, refl, sym, ap}
+use Rattle.std.proofs.Common.{subst, ◌∙◌, inl, inr, ⊎_elim, arith, eqb-true, eq-eqb, ltb-true, lt-ltb, ltb-false}
 use Rattle.std.specs.List.{list_any}
 use Rattle.std.specs.Str.{bytes_eq}
-use Rattle.std.proofs.Common.{refl, sym, ap, subst, ◌∙◌, inl, inr, ⊎_elim, arith, eqb-true, eq-eqb, ltb-true, lt-ltb, ltb-false}
 use Rattle.std.proofs.lemmas.Bool.{cases_Bool, and_parts, or_right, false≢true}
 use Rattle.std.proofs.lemmas.Slice.Eq.{bytes_eq-Decides}
-use Rattle.ci_board.specs.declared.facts.Row.{Row}
-use Rattle.ci_board.specs.declared.facts.Status.{Status}
-use Rattle.ci_board.specs.declared.facts.Status.TheVariants.{Created, Pending}
-use Rattle.ci_board.specs.Effects.{is_status}
-use Rattle.ci_machine.specs.declared.records.GroupOrder.{GroupOrder}
-use Rattle.ci_machine.specs.declared.records.GroupOrder.TheVariants.{OldestFirst, NewestReadyFirst}
-use Rattle.ci_machine.specs.declared.records.Job.{Job}
-use Rattle.ci_machine.specs.declared.records.Pipeline.{Pipeline}
-use Rattle.ci_machine.specs.declared.records.QueuedJob.{QueuedJob}
-use Rattle.ci_machine.specs.declared.records.WaitingJob.{WaitingJob}
-use Rattle.ci_machine.specs.Groups.{goes_before, is_in_line, is_behind}
-use Rattle.ci_machine.specs.Kept.{Kept}
-use Rattle.ci_machine.specs.Lookups.{job_at, pipeline_at, project_or_none, queued}
-use Rattle.ci_machine.specs.Statuses.{status_for}
-use Rattle.ci_machine.specs.Waiting.{waits_for, waits_as, waiting}
+use Rattle.ci_machine_steps.specs.Prelude.{Row, Status, Created, Pending, is_status, GroupOrder, OldestFirst, NewestReadyFirst, Job, Pipeline, QueuedJob, WaitingJob, goes_before}
+use Rattle.ci_machine_steps.specs.Prelude.{is_in_line, is_behind, Kept, job_at, pipeline_at, project_or_none, queued, status_for, waits_for, waits_as, waiting}
 use Rattle.ci_machine.proofs.Keyed.{Has, find_has, has_find}
 use Rattle.ci_machine.proofs.Tests.{any_has, has_any, any_joined}
 use Rattle.ci_machine_steps.proofs.Sound.{Sound, sound}
-use Rattle.ci_machine_statuses.proofs.Pages.{its_row_found}
-use Rattle.ci_server_lookups.specs.Keeps.{IsKept}
-use Rattle.ci_server_lookups.specs.Turns.{is_past, IsTurn}
+use Rattle.ci_machine_statuses.proofs.PendingRows.{its_row_found}
+use Rattle.ci_server_lookups.specs.Prelude.{IsKept, is_past, IsTurn}
 use Rattle.ci_server_lookups.proofs.OpenRows.{same_test}
 use Rattle.ci_memory_queue.specs.declared.lines.Place.{Place}
 use Rattle.ci_memory_queue.specs.Places.{place_by, place_at, counts_as, counts, counts_at}

@@ -1,22 +1,10 @@
 -- What notes cover stays covered after a commit, where a job that is sorted stays so while its row, its record and older pipelines stay.
-use Rattle.std.specs.Prelude.{◌≡◌, ◌⊎◌, ℕ, ◌≤◌, nat_lt, max, Bool, true, false, ◌==◌, List, [], ◌∷◌, ◌++◌, Contains, Option, Some, None, option_map, option_and_then}
-use Rattle.std.proofs.Common.{refl, sym, ap, subst, ◌∙◌, inl, inr, ⊎_elim, arith, eqb-true}
+use Rattle.std.proofs.Common.{◌≡◌, ◌⊎◌, ℕ, ◌≤◌, nat_lt, max, Bool, true, false, ◌==◌, List, [], ◌∷◌, ◌++◌, Contains, Option, Some, None, option_map, option_and_then, refl, sym, ap}
+use Rattle.std.proofs.Common.{subst, ◌∙◌, inl, inr, ⊎_elim, arith, eqb-true}
 use Rattle.std.proofs.lemmas.Bool.{cond_both, cases_Bool, eqb-false, false≢true, ltb-true}
-use Rattle.ci_machine.specs.declared.records.BoardRow.{BoardRow}
-use Rattle.ci_machine.specs.declared.records.GroupOrder.{GroupOrder}
-use Rattle.ci_machine.specs.declared.records.Job.{Job}
-use Rattle.ci_machine.specs.declared.records.Pipeline.{Pipeline}
-use Rattle.ci_machine.specs.declared.change.IndexChange.{IndexChange}
-use Rattle.ci_machine.specs.declared.change.Key.{Key}
-use Rattle.ci_machine.specs.declared.change.Key.TheVariants as key
-use Rattle.ci_machine.specs.declared.change.Record.{Record}
-use Rattle.ci_machine.specs.declared.change.Record.TheVariants as record_of
-use Rattle.ci_machine.specs.declared.change.RowChange.{RowChange}
-use Rattle.ci_machine.specs.declared.change.RowChange.TheVariants.{Put, Append, Remove}
-use Rattle.ci_machine.specs.State.{State, put, without, without_all, with_record, without_record, changed, applied}
-use Rattle.ci_machine.specs.Kept.{Kept, row_cmp, put_rows, indexed_all, cleared, written}
-use Rattle.ci_machine.specs.Lookups.{job_at, pipeline_at}
-use Rattle.ci_machine.specs.Ranges.{row_at}
+use Rattle.ci_machine_steps.specs.Prelude.{BoardRow, GroupOrder, Job, Pipeline, IndexChange, Key, Record, RowChange, Put, Append, Remove, State, put, without, without_all}
+use Rattle.ci_machine_steps.specs.Prelude.{with_record, without_record, changed, applied, Kept, row_cmp, put_rows, indexed_all, cleared, written, job_at, pipeline_at}
+use Rattle.ci_store.specs.Prelude.{row_at}
 use Rattle.ci_machine.proofs.Keyed.{has_from_contains, contains_from_has}
 use Rattle.ci_machine_steps.proofs.Behind.{has_left, has_right}
 use Rattle.ci_server_lookups.proofs.Changes.{state_stays, board_stays}
@@ -74,7 +62,7 @@ module _
 
     module _ (j : Job) (q : Noted) (s : State) (board : List BoardRow) where
       abbrev with_job : State
-      with_job = with_record (record_of.Job j) s
+      with_job = with_record (Record.Job j) s
 
       known_other : (n : ℕ) → (n ≡ j.id → ⊥) → IsKnown q s board n → IsKnown q with_job board n
       known_other n other known = known_stays q s with_job board n (put_other (λ (x : Job). x.id) j n s.jobs other) (λ m l. refl) known
@@ -91,25 +79,25 @@ module _
           let was = covers n counted in
           (was.0, ⊎_elim (λ e. inl (is_noted q.fresh j.id n e)) (λ other. known_more q with_job board j.id n (known_other n other was.1)) (same_or_not n j.id)))
 
-    covers_pipeline : (p : Pipeline) (q : Noted) (s : State) (board : List BoardRow) → nat_lt q.newest_pipeline p.id ≡ true → IsCovered q s board → IsCovered q (with_record (record_of.Pipeline p) s) board
+    covers_pipeline : (p : Pipeline) (q : Noted) (s : State) (board : List BoardRow) → nat_lt q.newest_pipeline p.id ≡ true → IsCovered q s board → IsCovered q (with_record (Record.Pipeline p) s) board
     covers_pipeline p q s board new covers =
         let behind = ltb-true q.newest_pipeline p.id new in
-        covers_stays q s (with_record (record_of.Pipeline p) s) board (λ n. refl)
+        covers_stays q s (with_record (Record.Pipeline p) s) board (λ n. refl)
         (λ m l. put_other (λ (x : Pipeline). x.id) p m s.pipelines (λ e. absurd (omega (arith, l, behind, e))))
         covers
 
     covers_record : (r : Record) (q p : Noted) (s : State) (board : List BoardRow) → record_noted r q ≡ Some p → IsCovered q s board → IsCovered p (with_record r s) board
-    covers_record (record_of.Job j) q p s board e covers = let is : job_noted j q ≡ p = cc in subst (λ (x : Noted). IsCovered x (with_record (record_of.Job j) s) board) is (covers_job j q s board covers)
-    covers_record (record_of.Pipeline r) q p s board e covers =
-        cond_both (nat_lt q.newest_pipeline r.id) (Some q) None (λ (o : Option Noted). o ≡ Some p → IsCovered p (with_record (record_of.Pipeline r) s) board)
-        (λ new same. let is : q ≡ p = cc in subst (λ (x : Noted). IsCovered x (with_record (record_of.Pipeline r) s) board) is (covers_pipeline r q s board new covers))
+    covers_record (Record.Job j) q p s board e covers = let is : job_noted j q ≡ p = cc in subst (λ (x : Noted). IsCovered x (with_record (Record.Job j) s) board) is (covers_job j q s board covers)
+    covers_record (Record.Pipeline r) q p s board e covers =
+        cond_both (nat_lt q.newest_pipeline r.id) (Some q) None (λ (o : Option Noted). o ≡ Some p → IsCovered p (with_record (Record.Pipeline r) s) board)
+        (λ new same. let is : q ≡ p = cc in subst (λ (x : Noted). IsCovered x (with_record (Record.Pipeline r) s) board) is (covers_pipeline r q s board new covers))
         (λ _ same. absurd (cc))
         e
     covers_record r q p s board e covers = let is : q ≡ p = cc in subst (λ (x : Noted). IsCovered x (with_record r s) board) is (covers_stays q s (with_record r s) board (λ n. refl) (λ m l. refl) covers)
 
     covers_removal : (k : Key) (q p : Noted) (s : State) (board : List BoardRow) → removal_noted k q ≡ Some p → IsCovered q s board → IsCovered p (without_record k s) board
-    covers_removal (key.Job n) q p s board e covers = absurd (cc)
-    covers_removal (key.Pipeline n) q p s board e covers = absurd (cc)
+    covers_removal (Key.Job n) q p s board e covers = absurd (cc)
+    covers_removal (Key.Pipeline n) q p s board e covers = absurd (cc)
     covers_removal k q p s board e covers = let is : q ≡ p = cc in subst (λ (x : Noted). IsCovered x (without_record k s) board) is (covers_stays q s (without_record k s) board (λ n. refl) (λ m l. refl) covers)
 
     covers_change : (c : RowChange) (q p : Noted) (s : State) (board : List BoardRow) → change_noted c q ≡ Some p → IsCovered q s board → IsCovered p (changed c s) board

@@ -1,22 +1,16 @@
 -- The first of the jobs of a pipeline that is pending and asks what it is looked for, and the first that need not wait for its group.
-use Rattle.std.specs.Prelude.{◌≡◌, ◌⊎◌, ℕ, ◌+◌, ◌<◌, ◌≤◌, Bool, true, false, if◌then◌else◌, ◌==◌, List, [], ◌∷◌, length, take, Option, Some, None, is_some, slice_index_or}
-use Rattle.std.proofs.Common.{refl, sym, ap, subst, ◌∙◌, inl, inr, ⊎_elim, arith, zero, suc, eqb-true, eq-eqb}
+use Rattle.std.proofs.Common.{◌≡◌, ◌⊎◌, ℕ, ◌+◌, ◌<◌, ◌≤◌, Bool, true, false, if◌then◌else◌, ◌==◌, List, [], ◌∷◌, length, take, Option, Some, None, is_some, slice_index_or, refl}
+use Rattle.std.proofs.Common.{sym, ap, subst, ◌∙◌, inl, inr, ⊎_elim, arith, zero, suc, eqb-true, eq-eqb}
 use Rattle.std.proofs.lemmas.Bool.{both_ways, eqb-false}
 use Rattle.std.proofs.lemmas.List.{take_more}
-use Rattle.ci_machine.specs.declared.records.Job.{Job}
-use Rattle.ci_machine.specs.declared.records.Pipeline.{Pipeline}
-use Rattle.ci_machine.specs.declared.records.QueuedJob.{QueuedJob}
-use Rattle.ci_machine.specs.Kept.{Kept}
-use Rattle.ci_machine.specs.Lookups.{job_at, queued}
-use Rattle.ci_machine.specs.Statuses.{jobs_of}
+use Rattle.ci_machine_steps.specs.Prelude.{Job, Pipeline, QueuedJob, Kept, job_at, queued, jobs_of, pipeline_or_none}
 use Rattle.ci_machine.proofs.Keyed.{Has, Rising, rising_from, rising_filter, has_filter, filter_has, has_find, find_has}
-use Rattle.ci_machine_steps.specs.Step.{pipeline_or_none}
 use Rattle.ci_machine_steps.proofs.Behind.{in_either}
 use Rattle.ci_machine_steps.proofs.Sound.{sound}
 use Rattle.ci_server_lookups.specs.declared.search.Offer.{Offer}
-use Rattle.ci_server_lookups.specs.Keeps.{IsKept}
+use Rattle.ci_server_lookups.specs.Prelude.{IsKept}
 use Rattle.ci_memory_queue.specs.declared.queue.Asks.{Asks}
-use Rattle.ci_memory_queue.specs.declared.turns.Turn.TheVariants as turn
+use Rattle.ci_memory_queue.specs.declared.turns.Turn.{Turn}
 use Rattle.ci_memory_queue.specs.Covers.{asked_by}
 use Rattle.ci_memory_queue.specs.Offers.{UpTo, IsAhead, IsOfferAt, IsOfferAhead, IsPendingOf, IsFirst, IsFirstOf, IsFirstFree}
 use Rattle.ci_memory_queue.specs.Turns.{pipeline_for, IsWanted, is_free_at, IsTurnOf}
@@ -139,16 +133,16 @@ module _ (k : Kept) (kept : IsKept k) (asks : Asks) (pipeline : ℕ) (jobs : Lis
 
 module _ (k : Kept) (asks : Asks) (jobs : List ℕ) (before : Option Offer) where
   -- none need wait: the first is the first of all
-  pub first_of_all : IsTurnOf k asks turn.Anyone → (found : Option Offer) → IsFirst k asks jobs before found → IsFirstFree k asks jobs before found
+  pub first_of_all : IsTurnOf k asks Turn.Anyone → (found : Option Offer) → IsFirst k asks jobs before found → IsFirstFree k asks jobs before found
   first_of_all free None first = λ job has wanted is. first job has
   first_of_all free (Some offer) first = (first.0, free offer.row.job, (λ job has wanted is. first.1 job has), first.2)
 
   -- each must
-  pub first_of_none : IsTurnOf k asks turn.Nobody → IsFirstFree k asks jobs before None
+  pub first_of_none : IsTurnOf k asks Turn.Nobody → IsFirstFree k asks jobs before None
   first_of_none held = λ job has wanted is. absurd (both_ways (is_free_at k asks job) (held job) is)
 
   -- all but those of a pipeline must
-  pub first_of_newest : (n : ℕ) → IsTurnOf k asks (turn.Newest n) → (found : Option Offer) → IsFirstOf k asks n before found → IsFirstFree k asks jobs before found
+  pub first_of_newest : (n : ℕ) → IsTurnOf k asks (Turn.Newest n) → (found : Option Offer) → IsFirstOf k asks n before found → IsFirstFree k asks jobs before found
   first_of_newest n its None first = λ job has wanted is. first job wanted (eqb-true (pipeline_for k.state job) n (sym (its job wanted) ∙ is))
   first_of_newest n its (Some offer) first = (
     first.0,
@@ -158,7 +152,7 @@ module _ (k : Kept) (asks : Asks) (jobs : List ℕ) (before : Option Offer) wher
   )
 
   -- the first of all is of the pipeline whose turn it is, or none behind it is
-  pub first_of_oldest : IsKept k → (n : ℕ) → IsTurnOf k asks (turn.Oldest n) → (offer : Offer) → IsFirst k asks jobs before (Some offer)
+  pub first_of_oldest : IsKept k → (n : ℕ) → IsTurnOf k asks (Turn.Oldest n) → (offer : Offer) → IsFirst k asks jobs before (Some offer)
       → IsFirstFree k asks jobs before (if offer.queued.job.pipeline == n then Some offer else None)
   first_of_oldest kept n its offer first = by (offer.queued.job.pipeline == n) refl
     where

@@ -1,9 +1,7 @@
 -- Jobs in sets and lists of numbers, and in classes.
-use Rattle.std.specs.Prelude.{◌≡◌, ◌⊎◌, ℕ, ◌<◌, Bool, false, List, [], ◌∷◌, length, Contains, slice_index_or, slice_set, Result, Ok, Err, OnOk}
-use Rattle.std.proofs.Common.{refl, sym, ap, subst, ◌∙◌, inl, inr, ⊎_elim, arith, suc, zero}
-use Rattle.std.specs.Ordering.{nat_cmp, is_eq, match_ordering}
-use Rattle.std.specs.declared.cmp.Ordering.{Ordering}
-use Rattle.std.specs.declared.cmp.Ordering.TheVariants.{Less, Equal, Greater}
+use Rattle.std.proofs.Common.{◌≡◌, ◌⊎◌, ℕ, ◌<◌, Bool, false, List, [], ◌∷◌, length, Contains, slice_index_or, slice_set, Result, Ok, Err, OnOk, refl, sym, ap, subst, ◌∙◌, inl, inr}
+use Rattle.std.proofs.Common.{⊎_elim, arith, suc, zero, nat_cmp, is_eq, Ordering, Less, Equal, Greater}
+use Rattle.std.specs.Ordering.{match_ordering}
 use Rattle.std.specs.BTreeMap.{is_at}
 use Rattle.std.specs.BTreeSet.{insert_key}
 use Rattle.std.specs.Set.{remove_key}
@@ -40,16 +38,9 @@ set_new (z ∷ zs) (suc i) x h = inr (set_new zs i x (omega arith))
 
 -- ---- classes
 
-among : (classes : List Class) (c : Class) (n : ℕ) → Has c classes → Contains c.jobs.keys n → IsAmong classes c.asks n
-among classes c n h m = record { of = c; there = contains_from_has c classes h; same = refl; has = m }
-
 -- by the class itself
 pub among_one : (classes : List Class) (asks : Asks) (n : ℕ) (c : Class) → Has c classes → c.asks ≡ asks → Contains c.jobs.keys n → IsAmong classes asks n
 among_one classes asks n c h e m = record { of = c; there = contains_from_has c classes h; same = e; has = m }
-
--- more classes have all that some have
-pub among_more : (classes more : List Class) (asks : Asks) (n : ℕ) → ((c : Class) → Has c classes → Has c more) → IsAmong classes asks n → IsAmong more asks n
-among_more classes more asks n all w = among_one more asks n w.of (all w.of (has_from_contains w.of classes w.there)) w.same w.has
 
 -- a class that is put in the place of another, which asks the same and has the job if that one had it, leaves it where it was
 pub among_set : (classes : List Class) (i : ℕ) (d c : Class) (asks : Asks) (n : ℕ) → i < length classes → c.asks ≡ (slice_index_or classes i d).asks

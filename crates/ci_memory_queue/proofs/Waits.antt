@@ -1,37 +1,20 @@
 -- Whose turn it is in a resource group tells which of the jobs that ask for it need not wait.
-use Rattle.std.specs.Prelude.{◌≡◌, ℕ, ◌<◌, ◌≤◌, Bool, true, false, not, ◌==◌, ◌&&◌, ◌||◌, nat_lt, List, Option, Some, None, is_some, option_map, option_and_then}
+use Rattle.std.proofs.Common.{◌≡◌, ℕ, ◌<◌, ◌≤◌, Bool, true, false, not, ◌==◌, ◌&&◌, ◌||◌, nat_lt, List, Option, Some, None, is_some, option_map, option_and_then, refl, sym, ap}
+use Rattle.std.proofs.Common.{subst, ◌∙◌, inl, ⊎_elim, arith, eqb-true, eq-eqb, ne_eqb, ltb-true, ltb-false}
 use Rattle.std.specs.Str.{bytes_eq}
-use Rattle.std.proofs.Common.{refl, sym, ap, subst, ◌∙◌, inl, ⊎_elim, arith, eqb-true, eq-eqb, ne_eqb, ltb-true, ltb-false}
 use Rattle.std.proofs.lemmas.Bool.{both_ways, cases_Bool}
 use Rattle.std.proofs.lemmas.Slice.Eq.{bytes_eq-Decides}
-use Rattle.ci_board.specs.declared.facts.Status.{Status}
-use Rattle.ci_board.specs.declared.facts.Status.TheVariants.{Pending}
-use Rattle.ci_machine.specs.declared.records.GroupMode.{GroupMode}
-use Rattle.ci_machine.specs.declared.records.GroupOrder.{GroupOrder}
-use Rattle.ci_machine.specs.declared.records.GroupOrder.TheVariants.{OldestFirst, NewestReadyFirst}
-use Rattle.ci_machine.specs.declared.records.Holder.{Holder}
-use Rattle.ci_machine.specs.declared.records.Job.{Job}
-use Rattle.ci_machine.specs.declared.records.Pipeline.{Pipeline}
-use Rattle.ci_machine.specs.declared.records.WaitingJob.{WaitingJob}
-use Rattle.ci_machine.specs.Eligible.{is_free}
-use Rattle.ci_machine.specs.Groups.{order_of, goes_before, is_in_line, is_behind}
-use Rattle.ci_machine.specs.Holders.{holder_at}
-use Rattle.ci_machine.specs.Kept.{Kept}
-use Rattle.ci_machine.specs.Lookups.{job_at, pipeline_at, project_or_none, queued}
-use Rattle.ci_machine.specs.State.{State}
-use Rattle.ci_machine.specs.Statuses.{status_for}
-use Rattle.ci_machine.specs.Waiting.{waits_for, waits_as, waiting, groups_in, claims_in, mode_at}
+use Rattle.ci_machine_steps.specs.Prelude.{Status, Pending, GroupMode, GroupOrder, OldestFirst, NewestReadyFirst, Holder, Job, Pipeline, WaitingJob, is_free, order_of, goes_before}
+use Rattle.ci_machine_steps.specs.Prelude.{is_in_line, is_behind, holder_at, Kept, job_at, pipeline_at, project_or_none, queued, State, status_for, waits_for, waits_as, waiting}
+use Rattle.ci_machine_steps.specs.Prelude.{groups_in, claims_in, mode_at, pipeline_or_none}
 use Rattle.ci_machine.proofs.Claims.{any_claim, none_ahead}
 use Rattle.ci_machine.proofs.Keyed.{Has, has_find}
 use Rattle.ci_machine.proofs.Tests.{has_any}
-use Rattle.ci_machine_steps.specs.Step.{pipeline_or_none}
 use Rattle.ci_machine_statuses.proofs.Grants.{pending_is}
-use Rattle.ci_server_lookups.specs.Keeps.{IsKept}
-use Rattle.ci_server_lookups.specs.Turns.{is_past, IsTurn}
+use Rattle.ci_server_lookups.specs.Prelude.{IsKept, is_past, IsTurn}
 use Rattle.ci_server_lookups.proofs.Holds.{has_flat, held_by_row}
 use Rattle.ci_memory_queue.specs.declared.queue.Asks.{Asks}
 use Rattle.ci_memory_queue.specs.declared.turns.Turn.{Turn}
-use Rattle.ci_memory_queue.specs.declared.turns.Turn.TheVariants as turn
 use Rattle.ci_memory_queue.specs.Covers.{asked_by, asks_at, is_pending_at}
 use Rattle.ci_memory_queue.specs.Turns.{pipeline_for, is_free_at, IsTurnOf, turn_by, GoesFirst}
 
@@ -144,7 +127,7 @@ module _ (k : Kept) (kept : IsKept k) (asks : Asks) (group : List ℕ) (its : as
       ap (is_free (claims_in k.state k.board n) asks.project) its
       ∙ ap not (any_claim (groups_in k.state k.board) n asks.project group ∙ ap (λ b. b || behind n) (sym (held_by_row k.state k.holders kept.are_indexes.held asks.project group held at)))
 
-  pub held_turn : (held : Option Holder) → held ≡ holder_at asks.project group k.holders → true ≡ is_some held → IsTurnOf k asks turn.Nobody
+  pub held_turn : (held : Option Holder) → held ≡ holder_at asks.project group k.holders → true ≡ is_some held → IsTurnOf k asks Turn.Nobody
   held_turn held at is = λ job. free_by held at job ∙ ap (λ b. not (b || behind (pipeline_for k.state job))) (sym is)
 
   module _ (held : Option Holder) (at : held ≡ holder_at asks.project group k.holders) (is : false ≡ is_some held) where
@@ -158,12 +141,12 @@ module _ (k : Kept) (kept : IsKept k) (asks : Asks) (group : List ℕ) (its : as
         unheld job ∙ ap not (ap (λ o. is_behind o (waiting k.state k.board) asks.project (pipeline_for k.state job) group) ordered ∙ is (pipeline_for k.state job))
 
     pub turn_is : (its_turn : Turn) → GoesFirst k asks.project group its_turn → IsTurnOf k asks its_turn
-    turn_is turn.Anyone none = λ job. unheld job ∙ ap not (none (pipeline_for k.state job))
-    turn_is turn.Nobody goes = absurd goes
-    turn_is (turn.Oldest first) goes = λ job wanted.
+    turn_is Turn.Anyone none = λ job. unheld job ∙ ap not (none (pipeline_for k.state job))
+    turn_is Turn.Nobody goes = absurd goes
+    turn_is (Turn.Oldest first) goes = λ job wanted.
         let waits = oldest_waits k.state k.board job asks group its wanted.0 wanted.1 first goes.1 in
         (waits.0, past OldestFirst first goes.0 goes.1 job ∙ waits.1)
-    turn_is (turn.Newest first) goes = λ job wanted.
+    turn_is (Turn.Newest first) goes = λ job wanted.
         past NewestReadyFirst first goes.0 goes.1 job ∙ newest_waits k.state k.board job asks group its wanted.0 wanted.1 first goes.1
 
 module _ (k : Kept) (project : ℕ) (group : List ℕ) where
@@ -171,7 +154,7 @@ module _ (k : Kept) (project : ℕ) (group : List ℕ) where
   order_is found at = ap (option_map (λ (m : GroupMode). m.order)) (sym at)
 
   -- none goes before others in a group without a mode
-  pub unordered : None ≡ mode_at k.state project group → GoesFirst k project group turn.Anyone
+  pub unordered : None ≡ mode_at k.state project group → GoesFirst k project group Turn.Anyone
   unordered at = λ n. ap (λ o. is_behind o (waiting k.state k.board) project n group) (order_is None at) ∙ none_ahead (waiting k.state k.board) project n group
 
   -- in one with a mode it is as its order tells
@@ -183,7 +166,3 @@ module _ (k : Kept) (project : ℕ) (group : List ℕ) where
       by order None e its = λ n. ap (λ x. is_behind x (waiting k.state k.board) project n group) e ∙ its n
       by OldestFirst (Some n) e its = (e, its)
       by NewestReadyFirst (Some n) e its = (e, its)
-
--- none waits for what is no group
-pub no_group : (k : Kept) (asks : Asks) → asks.group ≡ None → IsTurnOf k asks turn.Anyone
-no_group k asks none = λ job. ap (is_free (claims_in k.state k.board (pipeline_for k.state job)) asks.project) none

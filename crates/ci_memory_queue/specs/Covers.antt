@@ -1,15 +1,6 @@
 -- Which pending jobs are remembered, and when that is right.
 use Rattle.std.specs.Prelude.{◌≡◌, ◌⊎◌, ◌≤◌, ℕ, Bool, true, List, Contains, Option, Some, IfSome, option_map, option_and_then}
-use Rattle.ci_board.specs.declared.facts.Status.TheVariants as status
-use Rattle.ci_board.specs.Effects.{is_status}
-use Rattle.ci_machine.specs.declared.records.BoardRow.{BoardRow}
-use Rattle.ci_machine.specs.declared.records.Job.{Job}
-use Rattle.ci_machine.specs.declared.records.Pipeline.{Pipeline}
-use Rattle.ci_machine.specs.declared.records.QueuedJob.{QueuedJob}
-use Rattle.ci_machine.specs.State.{State}
-use Rattle.ci_machine.specs.Kept.{Kept}
-use Rattle.ci_machine.specs.Statuses.{status_for}
-use Rattle.ci_machine.specs.Lookups.{job_at, pipeline_at}
+use Rattle.ci_machine_steps.specs.Prelude.{Status, is_status, BoardRow, Job, Pipeline, QueuedJob, State, Kept, status_for, job_at, pipeline_at}
 use Rattle.ci_memory_queue.specs.declared.queue.Asks.{Asks}
 use Rattle.ci_memory_queue.specs.declared.queue.Class.{Class}
 use Rattle.ci_memory_queue.specs.Known.{Known}
@@ -28,7 +19,7 @@ asked_of q = record { project = q.project; tags = q.job.options.tags; group = q.
 
 -- the job with this number is pending: its row says so
 abbrev pub is_pending_at : List BoardRow → ℕ → Bool
-is_pending_at board n = is_status (status_for board n) status.Pending
+is_pending_at board n = is_status (status_for board n) Status.Pending
 
 -- A class of those that ask this has the job.
 pub record IsAmong (classes : List Class) (asks : Asks) (job : ℕ) : Type 0 where

@@ -1,8 +1,6 @@
 -- The job that goes first in a resource group, as it is looked for along a line.
 use Rattle.std.specs.Prelude.{◌≡◌, ◌≤◌, ℕ, true, List, Contains, Option, Some, None}
-use Rattle.ci_machine.specs.declared.records.GroupOrder.{GroupOrder}
-use Rattle.ci_machine.specs.declared.records.GroupOrder.TheVariants.{OldestFirst, NewestReadyFirst}
-use Rattle.ci_machine.specs.Kept.{Kept}
+use Rattle.ci_machine_steps.specs.Prelude.{GroupOrder, OldestFirst, NewestReadyFirst, Kept}
 use Rattle.ci_memory_queue.specs.Places.{place_at, counts_at}
 
 -- the job counts in the order, and stands in the group of the project with this pipeline

@@ -2,11 +2,7 @@
 -- `oldest_first`. It is ready where it is pending: where it counts in `newest_ready_first`.
 use Rattle.std.specs.Prelude.{◌≡◌, ◌⊎◌, ◌≤◌, ℕ, zero, suc, Bool, true, false, ◌&&◌, ◌==◌, List, [], ◌∷◌, find, Contains, Option, Some, None, IfSome}
 use Rattle.std.specs.Str.{bytes_eq}
-use Rattle.ci_machine.specs.declared.records.BoardRow.{BoardRow}
-use Rattle.ci_machine.specs.declared.records.GroupOrder.{GroupOrder}
-use Rattle.ci_machine.specs.declared.records.GroupOrder.TheVariants.{OldestFirst, NewestReadyFirst}
-use Rattle.ci_machine.specs.State.{State}
-use Rattle.ci_machine.specs.Kept.{Kept}
+use Rattle.ci_machine_steps.specs.Prelude.{BoardRow, GroupOrder, OldestFirst, NewestReadyFirst, State, Kept}
 use Rattle.ci_memory_queue.specs.declared.lines.Line.{Line}
 use Rattle.ci_memory_queue.specs.declared.lines.Place.{Place}
 use Rattle.ci_memory_queue.specs.KnownLines.{Known}

@@ -1,15 +1,6 @@
 -- What is noted of jobs at a commit: those which may have come to count since they were last looked up, or to ask something else.
 use Rattle.std.specs.Prelude.{ℕ, nat_lt, max, List, [], ◌∷◌, ◌++◌, Option, Some, None, if◌then◌else◌, option_map, option_and_then}
-use Rattle.ci_machine.specs.declared.records.BoardRow.{BoardRow}
-use Rattle.ci_machine.specs.declared.records.GroupOrder.{GroupOrder}
-use Rattle.ci_machine.specs.declared.records.Job.{Job}
-use Rattle.ci_machine.specs.declared.records.Pipeline.{Pipeline}
-use Rattle.ci_machine.specs.declared.change.Key.{Key}
-use Rattle.ci_machine.specs.declared.change.Key.TheVariants as key
-use Rattle.ci_machine.specs.declared.change.Record.{Record}
-use Rattle.ci_machine.specs.declared.change.Record.TheVariants as record_of
-use Rattle.ci_machine.specs.declared.change.RowChange.{RowChange}
-use Rattle.ci_machine.specs.declared.change.RowChange.TheVariants.{Put, Append, Remove}
+use Rattle.ci_machine_steps.specs.Prelude.{BoardRow, GroupOrder, Job, Pipeline, Key, Record, RowChange, Put, Append, Remove}
 use Rattle.ci_memory_queue.specs.Places.{counts_as}
 
 -- The notes, as contracts see them.
@@ -30,14 +21,14 @@ abbrev pub pipeline_noted : Pipeline → Noted → Option Noted
 pipeline_noted p q = if nat_lt q.newest_pipeline p.id then Some q else None
 
 abbrev pub record_noted : Record → Noted → Option Noted
-record_noted (record_of.Job j) q = Some (job_noted j q)
-record_noted (record_of.Pipeline p) q = pipeline_noted p q
+record_noted (Record.Job j) q = Some (job_noted j q)
+record_noted (Record.Pipeline p) q = pipeline_noted p q
 record_noted _ q = Some q
 
 -- so it is where a job or a pipeline goes
 abbrev pub removal_noted : Key → Noted → Option Noted
-removal_noted (key.Job n) q = None
-removal_noted (key.Pipeline n) q = None
+removal_noted (Key.Job n) q = None
+removal_noted (Key.Pipeline n) q = None
 removal_noted _ q = Some q
 
 abbrev pub change_noted : RowChange → Noted → Option Noted

@@ -1,13 +1,7 @@
 -- The job that a runner may be given, as it is looked for class by class.
 use Rattle.std.specs.Prelude.{◌≡◌, ◌≤◌, ◌<◌, ℕ, true, false, List, Contains, Option, Some, None, IfSome}
-use Rattle.ci_machine.specs.declared.records.BoardRow.{BoardRow}
-use Rattle.ci_machine.specs.declared.records.Runner.{Runner}
-use Rattle.ci_machine.specs.Eligible.{may_run}
-use Rattle.ci_machine.specs.Lookups.{job_at}
-use Rattle.ci_machine.specs.State.{State}
-use Rattle.ci_machine.specs.Kept.{Kept}
-use Rattle.ci_machine.specs.Ranges.{row_at}
-use Rattle.ci_machine_statuses.specs.Pages.{queued_at}
+use Rattle.ci_machine_steps.specs.Prelude.{BoardRow, Runner, may_run, job_at, State, Kept, queued_at}
+use Rattle.ci_store.specs.Prelude.{row_at}
 use Rattle.ci_server_lookups.specs.declared.search.Offer.{Offer}
 use Rattle.ci_memory_queue.specs.declared.queue.Asks.{Asks}
 use Rattle.ci_memory_queue.specs.declared.queue.Class.{Class}
@@ -37,7 +31,7 @@ IsDemand s job pipeline asks = (asks_at s job ≡ Some asks) × IfSome (job_at s
 pub record IsPendingOf (k : Kept) (asks : Asks) (offer : Offer) : Type 0 where
   pub row : row_at offer.row.job k.board ≡ Some offer.row
   pub pending : is_pending_at k.board offer.row.job ≡ true
-  pub queued : queued_at k.state offer.row ≡ Some offer.queued
+  pub queued : queued_at k.state offer.row.job ≡ Some offer.queued
   pub asked : asks_at k.state offer.row.job ≡ Some asks
 
 -- it is the job with this number, or this isn't pending or asks something else

@@ -1,16 +1,7 @@
 -- Where a job stands, by its records, and whether it waits for its turn, by its row.
 use Rattle.std.specs.Prelude.{ℕ, Bool, false, ◌||◌, List, Option, Some, None, option_map, option_and_then}
-use Rattle.ci_board.specs.declared.facts.Status.{Status}
-use Rattle.ci_board.specs.declared.facts.Status.TheVariants.{Created, Pending}
-use Rattle.ci_board.specs.Effects.{is_status}
-use Rattle.ci_machine.specs.declared.records.BoardRow.{BoardRow}
-use Rattle.ci_machine.specs.declared.records.GroupOrder.{GroupOrder}
-use Rattle.ci_machine.specs.declared.records.GroupOrder.TheVariants.{OldestFirst, NewestReadyFirst}
-use Rattle.ci_machine.specs.declared.records.Job.{Job}
-use Rattle.ci_machine.specs.declared.records.Pipeline.{Pipeline}
-use Rattle.ci_machine.specs.State.{State}
-use Rattle.ci_machine.specs.Lookups.{job_at, pipeline_at}
-use Rattle.ci_machine.specs.Ranges.{row_at}
+use Rattle.ci_machine_steps.specs.Prelude.{Status, Created, Pending, is_status, BoardRow, GroupOrder, OldestFirst, NewestReadyFirst, Job, Pipeline, State, job_at, pipeline_at}
+use Rattle.ci_store.specs.Prelude.{row_at}
 use Rattle.ci_memory_queue.specs.declared.lines.Place.{Place}
 
 -- the place of a job of a pipeline

@@ -1,7 +1,7 @@
 //! Whether two jobs ask the same of a runner.
 
 ghost use Rattle.std.specs.Prelude.{◌≡◌, ◌≢◌, IsTrue, false};
-ghost use Rattle.ci_machine.specs.declared.records.Pipeline.{Pipeline};
+ghost use Rattle.ci_machine_steps.specs.Prelude.{Pipeline};
 ghost use Rattle.ci_memory_queue.specs.Covers.{asked_by, asked_of};
 
 use crate::queue::Asks;

@@ -1,8 +1,8 @@
 //! The least pending job of all classes that a runner may be given.
 
 ghost use Rattle.std.specs.Prelude.{◌≡◌, ◌==◌, if◌then◌else◌, ℕ, true, Contains, Some, None};
-ghost use Rattle.ci_store.specs.Store.{LoadsBy};
-ghost use Rattle.ci_server_lookups.specs.Keeps.{IsKept};
+ghost use Rattle.ci_store.specs.Prelude.{LoadsBy};
+ghost use Rattle.ci_server_lookups.specs.Prelude.{IsKept};
 ghost use Rattle.ci_memory_queue.specs.declared.queue.Asks.{Asks};
 ghost use Rattle.ci_memory_queue.specs.declared.turns.Turn.TheVariants as turn;
 ghost use Rattle.ci_memory_queue.specs.Covers.{is_pending_at, asks_at, IsAmong};

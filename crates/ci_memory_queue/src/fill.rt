@@ -1,8 +1,8 @@
 //! The jobs that count as the store has them, to begin with: all of them are noted, and none is sorted yet.
 
 ghost use Rattle.std.specs.Prelude.{◌≡◌, ◌++◌, map, OnOk};
-ghost use Rattle.ci_machine.specs.Ranges.{rows_with};
-ghost use Rattle.ci_store.specs.Store.{LoadsBy};
+ghost use Rattle.ci_machine_steps.specs.Prelude.{rows_with};
+ghost use Rattle.ci_store.specs.Prelude.{LoadsBy};
 ghost use Rattle.ci_memory_queue.specs.Covers.{Covers};
 
 use crate::notes::notes_of;

@@ -1,12 +1,10 @@
 //! The first job that is pending and asks what a class asks: of those that the class has, or of those of a pipeline.
 
 ghost use Rattle.std.specs.Prelude.{◌≡◌, ◌≤◌, ℕ, true, false, IsTrue, IfSome, Contains, Some, slice_get, option_map};
-ghost use Rattle.ci_machine.specs.Lookups.{job_at, pipeline_at};
-ghost use Rattle.ci_machine.specs.Statuses.{jobs_of};
+ghost use Rattle.ci_machine_steps.specs.Prelude.{job_at, pipeline_at, jobs_of, queued_at};
 ghost use Rattle.ci_machine_steps.specs.Step as step;
-ghost use Rattle.ci_machine_statuses.specs.Pages.{queued_at};
-ghost use Rattle.ci_store.specs.Store.{LoadsBy};
-ghost use Rattle.ci_server_lookups.specs.Keeps.{IsKept};
+ghost use Rattle.ci_server_lookups.specs.Prelude.{IsKept};
+ghost use Rattle.ci_store.specs.Prelude.{LoadsBy};
 ghost use Rattle.ci_memory_queue.specs.Covers.{is_pending_at, asked_by, asked_of, asks_at};
 ghost use Rattle.ci_memory_queue.specs.Offers.{UpTo, IsAhead, IsOfferAt, IsOfferAhead, IsFirst, IsFirstOf};
 
@@ -139,7 +137,7 @@ fn offer_at<T: Store>(store: &mut T, asks: &Asks, job: u64) -> Result<Option<Off
 
 /// The job of a row, with the project of its pipeline.
 fn offer_of<T: Store>(store: &mut T, row: BoardRow) -> Result<Offer, StoreFault>
-    ensures { LoadsBy T.honest T.holds T.leaves store.old store.new result (λ k offer. (offer.row ≡ row) × (queued_at k.state row ≡ Some offer.queued) × (asks_at k.state row.job ≡ Some (asked_of offer.queued))) }
+    ensures { LoadsBy T.honest T.holds T.leaves store.old store.new result (λ k offer. (offer.row ≡ row) × (queued_at k.state row.job ≡ Some offer.queued) × (asks_at k.state row.job ≡ Some (asked_of offer.queued))) }
 {
     match store.job(row.job)? {
         Some(job) => Ok(Offer {

@@ -8,8 +8,7 @@ pub(crate) mod places;
 pub mod turn;
 
 ghost use Rattle.std.specs.Prelude.{ℕ, List};
-ghost use Rattle.ci_machine.specs.declared.change.IndexChange.{IndexChange};
-ghost use Rattle.ci_machine.specs.Kept.{Kept, written, cleared};
+ghost use Rattle.ci_machine_steps.specs.Prelude.{IndexChange, Kept, written, cleared};
 ghost use Rattle.ci_memory_queue.specs.LineCovers.{IsRight};
 
 use crate::notes::{Notes, notes_after};

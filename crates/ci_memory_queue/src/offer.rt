@@ -1,10 +1,9 @@
 //! The first pending job that a runner may be given, by what is remembered of the pending jobs.
 
 ghost use Rattle.std.specs.Prelude.{◌≡◌, ◌≤◌, ℕ, true, [], Some};
-ghost use Rattle.ci_machine.specs.Kept.{Kept};
-ghost use Rattle.ci_store.specs.Store.{LoadsBy};
-ghost use Rattle.ci_server_lookups.specs.Keeps.{IsKept};
-ghost use Rattle.ci_server_lookups.specs.Search.{IsOffered};
+ghost use Rattle.ci_machine_steps.specs.Prelude.{Kept};
+ghost use Rattle.ci_store.specs.Prelude.{LoadsBy};
+ghost use Rattle.ci_server_lookups.specs.Prelude.{IsKept, IsOffered};
 ghost use Rattle.ci_memory_queue.specs.declared.queue.Asks.{Asks};
 ghost use Rattle.ci_memory_queue.specs.Covers.{is_pending_at, IsAmong, IsSorted, Covers, IsRight};
 ghost use Rattle.ci_memory_queue.specs.Offers.{IsDemand};

@@ -1,9 +1,8 @@
 //! Whether a job is pending, by its row.
 
 ghost use Rattle.std.specs.Prelude.{◌≡◌, if◌then◌else◌, Some, None};
-ghost use Rattle.ci_board.specs.declared.facts.Status.TheVariants.{Pending};
-ghost use Rattle.ci_board.specs.Effects.{is_status};
-ghost use Rattle.ci_store.specs.Store.{LoadsBy};
+ghost use Rattle.ci_machine_steps.specs.Prelude.{Pending, is_status};
+ghost use Rattle.ci_store.specs.Prelude.{LoadsBy};
 ghost use Rattle.ci_memory_queue.specs.Offers.{IsPendingRow};
 
 use ci_board::facts::Status;

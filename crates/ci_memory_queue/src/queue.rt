@@ -1,8 +1,7 @@
 //! What is remembered of the pending jobs.
 
 ghost use Rattle.std.specs.Prelude.{ℕ, List};
-ghost use Rattle.ci_machine.specs.declared.change.IndexChange.{IndexChange};
-ghost use Rattle.ci_machine.specs.Kept.{Kept, written, cleared};
+ghost use Rattle.ci_machine_steps.specs.Prelude.{IndexChange, Kept, written, cleared};
 ghost use Rattle.ci_memory_queue.specs.Covers.{IsRight};
 
 use crate::notes::{Notes, notes_after};

@@ -1,8 +1,8 @@
 //! Which of the jobs that ask the same need not wait for their resource group.
 
 ghost use Rattle.std.specs.Prelude.{◌≡◌};
-ghost use Rattle.ci_store.specs.Store.{LoadsBy};
-ghost use Rattle.ci_server_lookups.specs.Keeps.{IsKept};
+ghost use Rattle.ci_store.specs.Prelude.{LoadsBy};
+ghost use Rattle.ci_server_lookups.specs.Prelude.{IsKept};
 ghost use Rattle.ci_memory_queue.specs.Turns.{GoesFirst, IsTurnOf, turn_by};
 
 use crate::queue::Asks;

@@ -1,14 +1,11 @@
 -- Where included jobs stand and which waits for which is the file's to say, and no rule's.
-use Rattle.std.proofs.Common.{◌≡◌, ℕ, zero, suc, ◌+◌, ◌<◌, Bool, true, false, List, [], ◌∷◌, ◌++◌, Option, Some, None, map, length, drop, not, ◌&&◌, arith, refl, sym, ap, subst, ◌∙◌}
-use Rattle.std.specs.Prelude.{filter, flat_map, if◌then◌else◌, slice_index_or}
+use Rattle.std.proofs.Common.{◌≡◌, ℕ, zero, suc, ◌+◌, ◌<◌, Bool, true, false, List, [], ◌∷◌, ◌++◌, Option, Some, None, map, length, drop, not, ◌&&◌, arith, refl, sym, ap, subst}
+use Rattle.std.proofs.Common.{◌∙◌, filter, flat_map, if◌then◌else◌, slice_index_or}
 use Rattle.std.specs.Str.{bytes_eq}
 use Rattle.std.proofs.lemmas.List.{at_drop_more, length-map}
-use Rattle.ci_config.specs.Config.{Text, Need, Config}
-use Rattle.ci_config.specs.View.{job_view}
-use Rattle.ci_graph.specs.Lists.{number_at}
-use Rattle.ci_graph_layout.specs.Inclusion.{Given, IncludedJob, without_rules}
-use Rattle.ci_graph_layout.specs.Layout.{put, rank, ranks, below, place_from, place_of, needed, by_needs, predecessors, pairs_from, pairs}
-use Rattle.ci_graph_layout.specs.Fault.{needs_of, needs_many, is_missing, is_unmet, is_later, names_later}
+use Rattle.ci_graph_layout.specs.Prelude.{Text, Need, Config, job_view, Given, IncludedJob, without_rules, put, rank, ranks, below, place_from, place_of, needed, by_needs}
+use Rattle.ci_graph_layout.specs.Prelude.{predecessors, pairs_from, pairs, needs_of, needs_many, is_missing, is_unmet, is_later, names_later}
+use Rattle.ci_machine.specs.Prelude.{number_at}
 use Rattle.ci_plan.specs.Planned.{names, name_at, planned_job}
 use Rattle.ci_plan.specs.Circles.{IsCircle}
 use Rattle.ci_plan.specs.Faults.{named_need, unmet_of, later_of, many, IsAbout}

@@ -1,18 +1,14 @@
 -- What is told of the jobs, by the layout.
-use Rattle.std.proofs.Common.{◌≡◌, Bool, true, false, List, Some, None, Result, Ok, Err, map, sym, ap, subst, ◌∙◌}
-use Rattle.std.specs.Prelude.{if◌then◌else◌, not}
-use Rattle.ci_config.specs.Config.{Config}
-use Rattle.ci_graph.specs.Pairs.{HasCycle}
-use Rattle.ci_graph_layout.specs.Inclusion.{Given, IncludedJob}
-use Rattle.ci_graph_layout.specs.Layout.{lineup, pairs}
+use Rattle.std.proofs.Common.{◌≡◌, Bool, true, false, List, Some, None, Result, Ok, Err, map, sym, ap, subst, ◌∙◌, if◌then◌else◌, not}
+use Rattle.ci_graph_layout.specs.Prelude.{Config, Given, IncludedJob, lineup, pairs, Plans, faulty, cyclic, planned, any, is_work, needs_many, lacks_need}
+use Rattle.ci_graph_layout.specs.Prelude.{waits_for_later, plan_view}
+use Rattle.ci_machine.specs.Prelude.{HasCycle}
 use Rattle.ci_graph_layout.specs.Fault as layout
-use Rattle.ci_graph_layout.specs.Fault.{Plans, faulty, cyclic, planned, first_fault, any, is_work, needs_many, lacks_need, waits_for_later}
 use Rattle.ci_graph_layout.specs.declared.fault.GraphCode.{GraphCode}
 use Rattle.ci_graph_layout.specs.declared.fault.GraphCode.TheVariants.{G1, G2, G3, G4, G5}
-use Rattle.ci_graph_layout.specs.Plans.{Gives, plan_view}
+use Rattle.ci_graph_layout.specs.Plans.{Gives}
 use Rattle.ci_graph_layout.specs.declared.planning.PipelinePlan.{PipelinePlan}
 use Rattle.ci_graph_layout.specs.declared.fault.PlanFault.{PlanFault}
-use Rattle.ci_graph_layout.specs.declared.fault.PlanFault.TheVariants as refused
 use Rattle.ci_plan.specs.Faults.{code_of, IsAbout}
 use Rattle.ci_plan.specs.Said.{laid_out, Lays, fault_in, TellsJobs}
 use Rattle.ci_plan.specs.Views.{taken, entry_view, lined, planned_entry}
@@ -40,9 +36,9 @@ laid g c p (planned none acyclic) = planned none acyclic
 
 pub lays_in : (g : Given) (c : Config) (r : Result PipelinePlan PlanFault) → Gives g c r → Lays g c (fault_in r)
 lays_in g c (Ok p) gives = laid g c (plan_view p) gives
-lays_in g c (Err (refused.Fault code)) gives = gives
-lays_in g c (Err refused.Pattern) gives = gives
-lays_in g c (Err refused.Memory) gives = gives
+lays_in g c (Err (PlanFault.Fault code)) gives = gives
+lays_in g c (Err PlanFault.Pattern) gives = gives
+lays_in g c (Err PlanFault.Memory) gives = gives
 
 module _ (g : Given) (c : Config) (es : List Entry) (of : map entry_view es ≡ map (taken g c) (lineup g c)) where
   pub same_pairs : pairs c.stages (lined es) ≡ pairs c.stages (lineup g c)

@@ -1,29 +1,19 @@
 -- Notes that are put behind others.
-use Rattle.std.proofs.Common.{◌≡◌, ◌≢◌, ℕ, ◌+◌, ◌-◌, ◌<◌, Bool, true, false, List, [], ◌∷◌, ◌++◌, length, get_or, take, drop, length-drop, map, Option, Some, None, option_map, Result, Ok, Err, if◌then◌else◌, ◌==◌, refl, sym, ap, subst, ◌∙◌, arith}
-use Rattle.std.specs.Prelude.{MatchOption}
+use Rattle.std.proofs.Common.{◌≡◌, ◌≢◌, ℕ, ◌+◌, ◌-◌, ◌<◌, Bool, true, false, List, [], ◌∷◌, ◌++◌, length, get_or, take, drop, length-drop, map, Option, Some, None, option_map}
+use Rattle.std.proofs.Common.{Result, Ok, Err, if◌then◌else◌, ◌==◌, refl, sym, ap, subst, ◌∙◌, arith, MatchOption}
 use Rattle.std.specs.Borrow.{Bor}
 use Rattle.std.specs.Global.{Vec}
 use Rattle.std.proofs.lemmas.Bool.{eqb-true}
 use Rattle.std.proofs.lemmas.Grind.{flat_map-append}
 use Rattle.std.proofs.lemmas.List.{at_drop_more, take_all}
-use Rattle.ci_values.specs.Layers.{Variables}
-use Rattle.ci_expr.specs.declared.fault.ExprCode.{ExprCode}
-use Rattle.ci_expr.specs.declared.fault.ExprFault.{ExprFault}
+use Rattle.ci_machine_steps.specs.Prelude.{Variables}
+use Rattle.ci_graph_layout.specs.Prelude.{ExprCode, ExprFault, Tokenizes, tokens_of, Token, token_view, tokens_view, Text, Config, values_view, job_view, JobSpec, Given, seen}
 use Rattle.ci_expr.specs.declared.fault.ExprFault.TheVariants.{Fault}
 use Rattle.ci_expr.specs.declared.token.Token as rust
-use Rattle.ci_expr.specs.Meaning.{Tokenizes}
-use Rattle.ci_expr.specs.Reading.{tokens_of}
-use Rattle.ci_expr.specs.Token.{Token}
-use Rattle.ci_expr.specs.View.{Gives, token_view, tokens_view}
+use Rattle.ci_expr.specs.Prelude.{Gives}
 use Rattle.ci_expr.proofs.TokenLemmas.{tokens_of-sound}
-use Rattle.ci_yaml_lines.specs.Tree.{Value}
-use Rattle.ci_yaml_lines.specs.TreeView.{value_view}
-use Rattle.ci_yaml_lines.specs.declared.tree.Tree.{Tree}
-use Rattle.ci_config.specs.Config.{Text, Config}
-use Rattle.ci_config.specs.View.{values_view, job_view}
-use Rattle.ci_config.specs.declared.job.JobSpec.{JobSpec}
+use Rattle.ci_config.specs.Prelude.{Value, value_view, Tree}
 use Rattle.ci_config_reader.proofs.Trees.{step}
-use Rattle.ci_graph_layout.specs.Inclusion.{Given, seen}
 use Rattle.ci_plan.specs.Notes.{behind_dollar, first_compared, compared, compared_by, compared_in, rules_in, condition_in, of_condition, of_rules, of_jobs, is_noted, each_once, undefined_at, with_names}
 use Rattle.ci_plan.specs.declared.notes.Asking.{Asking}
 use Rattle.ci_plan.specs.declared.records.Note.{Note}

@@ -1,10 +1,10 @@
 -- Circles: which positions are in one, and how one is walked.
-use Rattle.std.proofs.Common.{◌≡◌, ◌⊎◌, inl, inr, ℕ, zero, suc, ◌-◌, ◌<◌, Bool, true, false, List, [], ◌∷◌, ◌++◌, length, drop, refl, sym, ap, subst, ◌∙◌, arith}
-use Rattle.std.specs.Prelude.{Contains, slice_index_or, slice_set as set, replicate, take, Result, Ok, Err, IfOk}
+use Rattle.std.proofs.Common.{◌≡◌, ◌⊎◌, inl, inr, ℕ, zero, suc, ◌-◌, ◌<◌, Bool, true, false, List, [], ◌∷◌, ◌++◌, length, drop, refl, sym, ap, subst, ◌∙◌, arith, Contains}
+use Rattle.std.proofs.Common.{slice_index_or, slice_set as set, replicate, take, Result, Ok, Err, IfOk}
 use Rattle.std.proofs.lemmas.Bool.{cases_eq, false≢true}
 use Rattle.std.proofs.lemmas.List.{get_or-set_other, get_or-replicate, take_all, length-drop}
 use Rattle.std.proofs.lemmas.List.Elements.{All-contains, Contains-push, Contains-append_left}
-use Rattle.ci_graph.specs.Pairs.{AreWithin, IsWalk, HasWalk}
+use Rattle.ci_machine.specs.Prelude.{AreWithin, IsWalk, HasWalk}
 use Rattle.ci_plan.specs.Circles.{WaitInTurn, IsCircle, is_left, KeepsCycles}
 
 -- each of these waits for the next one, and the last one for this

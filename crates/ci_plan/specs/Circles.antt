@@ -1,6 +1,6 @@
 -- Jobs that wait for one another in a circle.
 use Rattle.std.specs.Prelude.{◌≡◌, ℕ, Bool, true, false, List, [], ◌∷◌, Contains, slice_index_or}
-use Rattle.ci_graph.specs.Pairs.{HasWalk}
+use Rattle.ci_machine.specs.Prelude.{HasWalk}
 
 -- each of these positions waits for the next one, and the last one for this
 abbrev pub WaitInTurn : List (ℕ × ℕ) → ℕ → List ℕ → ℕ → Type 0

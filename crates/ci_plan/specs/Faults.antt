@@ -1,9 +1,6 @@
 -- Why there is no pipeline, with the jobs that it is about.
 use Rattle.std.specs.Prelude.{◌≡◌, ℕ, List, map, filter, flat_map}
-use Rattle.ci_config.specs.Config.{Text, Need}
-use Rattle.ci_graph_layout.specs.Inclusion.{IncludedJob}
-use Rattle.ci_graph_layout.specs.Layout.{rank, pairs}
-use Rattle.ci_graph_layout.specs.Fault.{needs_of, needs_many, is_unmet, names_later}
+use Rattle.ci_graph_layout.specs.Prelude.{Text, Need, IncludedJob, rank, pairs, needs_of, needs_many, is_unmet, names_later}
 use Rattle.ci_graph_layout.specs.declared.fault.GraphCode.{GraphCode}
 use Rattle.ci_graph_layout.specs.declared.fault.GraphCode.TheVariants.{G1, G2, G3, G4, G5}
 use Rattle.ci_plan.specs.Circles.{IsCircle}

@@ -1,20 +1,11 @@
 -- Comparisons in rules that mean something else here than they do in GitLab, since nothing defines a variable of theirs.
 use Rattle.std.specs.Prelude.{ℕ, ◌+◌, Bool, true, false, List, [], ◌∷◌, ◌++◌, flat_map, nat_eq, Option, Some, None, Result, Ok, Err, ◌==◌, ◌||◌, if◌then◌else◌, codes}
+use Rattle.std.specs.Prelude.{option_and_then}
 use Rattle.std.specs.List.{starts_with}
-use Rattle.std.specs.Option.{option_and_then}
 use Rattle.std.specs.Str.{bytes_eq}
-use Rattle.ci_values.specs.Layers.{Variables, layer_view}
-use Rattle.ci_values.specs.Table.{meaning_of}
-use Rattle.ci_yaml_lines.specs.Tree.{Value}
-use Rattle.ci_expr.specs.declared.fault.ExprCode.{ExprCode}
-use Rattle.ci_expr.specs.declared.token.Kind.{Kind}
-use Rattle.ci_expr.specs.declared.token.Kind.TheVariants as kind
-use Rattle.ci_expr.specs.Token.{Token}
-use Rattle.ci_expr.specs.Reading.{tokens_of}
-use Rattle.ci_config.specs.Config.{Text, Job, Config}
-use Rattle.ci_config.specs.Fault.{Placed}
-use Rattle.ci_config.specs.Values.{text_of, list_of, map_of}
-use Rattle.ci_graph_layout.specs.Inclusion.{Given, names, seen}
+use Rattle.ci_machine_steps.specs.Prelude.{Variables, layer_view, meaning_of}
+use Rattle.ci_config.specs.Prelude.{Value}
+use Rattle.ci_graph_layout.specs.Prelude.{ExprCode, Kind, Token, tokens_of, Text, Job, Config, Placed, text_of, list_of, map_of, Given, names, seen}
 use Rattle.ci_plan.specs.declared.notes.Asking.{Asking}
 use Rattle.ci_plan.specs.declared.records.Note.{Note}
 
@@ -38,10 +29,10 @@ is_of_gitlab name = starts_with nat_eq name (codes "CI_") || (starts_with nat_eq
 
 -- `==`, `!=`, `=~` and `!~`
 abbrev pub is_sign : Kind → Bool
-is_sign kind.Equal = true
-is_sign kind.Unequal = true
-is_sign kind.Match = true
-is_sign kind.Mismatch = true
+is_sign Kind.Equal = true
+is_sign Kind.Unequal = true
+is_sign Kind.Match = true
+is_sign Kind.Mismatch = true
 is_sign _ = false
 
 -- what follows the `$`
@@ -50,7 +41,7 @@ behind_dollar [] = None
 behind_dollar (b ∷ bs) = if b == 36 then Some bs else None
 
 abbrev pub name_by : Text → Kind → Option Text
-name_by slice kind.Name = behind_dollar slice
+name_by slice Kind.Name = behind_dollar slice
 name_by slice _ = None
 
 -- the variable that a token is
@@ -60,9 +51,9 @@ variable_of t = name_by t.slice t.kind
 -- A variable that nothing defines is to be noted beside another variable; and beside a text or a pattern where it is one of GitLab's, which has a
 -- value there.
 abbrev pub matters : Text → Kind → Bool
-matters name kind.Name = true
-matters name kind.Text = is_of_gitlab name
-matters name kind.Pattern = is_of_gitlab name
+matters name Kind.Name = true
+matters name Kind.Text = is_of_gitlab name
+matters name Kind.Pattern = is_of_gitlab name
 matters name _ = false
 
 abbrev pub side_by : Option Text → Kind → List Text

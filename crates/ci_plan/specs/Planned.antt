@@ -1,8 +1,6 @@
 -- What is told of each job that a pipeline has.
 use Rattle.std.specs.Prelude.{ℕ, List, [], map, slice_index_or}
-use Rattle.ci_config.specs.Config.{Text, Config}
-use Rattle.ci_graph_layout.specs.Inclusion.{Given, IncludedJob}
-use Rattle.ci_graph_layout.specs.Layout.{lineup, predecessors}
+use Rattle.ci_graph_layout.specs.Prelude.{Text, Config, Given, IncludedJob, lineup, predecessors}
 use Rattle.ci_plan.specs.Rules.{rule_of}
 use Rattle.ci_plan.specs.declared.records.PlannedJob.{PlannedJob}
 

@@ -1,9 +1,8 @@
 -- Which rule decides whether a pipeline has a job, and which jobs it doesn't have.
 use Rattle.std.specs.Prelude.{ℕ, ◌+◌, List, [], ◌∷◌, Option, Some, None, if◌then◌else◌}
-use Rattle.ci_values.specs.Layers.{Variables}
-use Rattle.ci_config.specs.Config.{Rule, Job, Config}
-use Rattle.ci_graph_layout.specs.Inclusion.{Given, IncludedJob, seen, holds, included}
-use Rattle.ci_graph_layout.specs.Layout.{put}
+use Rattle.ci_machine_steps.specs.Prelude.{Variables}
+use Rattle.ci_config.specs.Prelude.{Rule}
+use Rattle.ci_graph_layout.specs.Prelude.{Job, Config, Given, IncludedJob, seen, holds, included, put}
 use Rattle.ci_plan.specs.declared.records.LeftOut.{LeftOut}
 
 -- the number of the first rule that holds, where the first of these has the number k

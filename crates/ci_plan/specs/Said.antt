@@ -3,29 +3,19 @@ use Rattle.std.specs.Prelude.{◌≡◌, ℕ, List, [], Option, Some, None, Resu
 use Rattle.std.specs.IoError.{error_kind}
 use Rattle.std.specs.Str.{IsUtf8}
 use Rattle.std.specs.declared.io.Error.{Error}
-use Rattle.ci_yaml_lines.specs.Tree.{Value}
-use Rattle.ci_yaml.specs.Document.{HasTree}
-use Rattle.ci_yaml.specs.declared.fault.YamlFault.TheVariants as yaml
-use Rattle.ci_expr.specs.declared.fault.ExprCode.TheVariants.{X8}
-use Rattle.ci_config.specs.Config.{Config}
+use Rattle.ci_config.specs.Prelude.{Value}
+use Rattle.ci_yaml.specs.Prelude.{HasTree}
+use Rattle.ci_yaml.specs.declared.fault.YamlFault.{YamlFault}
+use Rattle.ci_graph_layout.specs.Prelude.{X8, Config, ConfigFault, ConfigLacksPatterns, Given, lineup, pairs, Plans}
 use Rattle.ci_config.specs.declared.fault.ConfigCode.TheVariants.{K13}
-use Rattle.ci_config.specs.declared.fault.ConfigFault.TheVariants as keywords
-use Rattle.ci_config.specs.Laws.{ConfigLacksPatterns}
-use Rattle.ci_graph_layout.specs.Inclusion.{Given}
-use Rattle.ci_graph_layout.specs.Layout.{lineup, pairs}
 use Rattle.ci_graph_layout.specs.Fault as layout
-use Rattle.ci_graph_layout.specs.Fault.{Plans}
 use Rattle.ci_graph_layout.specs.declared.fault.GraphCode.{GraphCode}
 use Rattle.ci_graph_layout.specs.declared.fault.PlanFault.{PlanFault}
-use Rattle.ci_graph_layout.specs.declared.fault.PlanFault.TheVariants as refused
 use Rattle.ci_graph_layout.specs.declared.planning.PipelinePlan.{PipelinePlan}
-use Rattle.ci_machine.specs.declared.request.NewPipeline.{NewPipeline}
-use Rattle.ci_machine_steps.specs.Files.{IsRead}
-use Rattle.ci_machine_steps.specs.Pipelines.{given_by}
+use Rattle.ci_machine_steps.specs.Prelude.{NewPipeline, IsRead, given_by}
 use Rattle.ci_explain.specs.Verdicts.{Fits, FitsText, TellsUnread}
 use Rattle.ci_explain.specs.Verdicts.{status as verdict_status}
 use Rattle.ci_explain.specs.declared.check.verdict.Verdict.{Verdict}
-use Rattle.ci_explain.specs.declared.check.verdict.Verdict.TheVariants as check
 use Rattle.ci_plan.specs.Rules.{left_out}
 use Rattle.ci_plan.specs.Planned.{planned_jobs}
 use Rattle.ci_plan.specs.Faults.{code_of, IsAbout}
@@ -55,32 +45,32 @@ pub record Tells (g : Given) (c : Config) (plan : Plan) : Type 0 where
 abbrev pub Lays : Given → Config → Result (Option GraphCode) PlanFault → Type 0
 Lays g c (Ok None) = Plans g c (Ok (laid_out g c))
 Lays g c (Ok (Some code)) = Plans g c (Err code)
-Lays g c (Err (refused.Fault code)) = ⊥
-Lays g c (Err refused.Pattern) = ConfigLacksPatterns c → ⊥
-Lays g c (Err refused.Memory) = ⊤
+Lays g c (Err (PlanFault.Fault code)) = ⊥
+Lays g c (Err PlanFault.Pattern) = ConfigLacksPatterns c → ⊥
+Lays g c (Err PlanFault.Memory) = ⊤
 
 -- what is answered where a plan is asked, without the plan
 abbrev pub fault_in : Result PipelinePlan PlanFault → Result (Option GraphCode) PlanFault
 fault_in (Ok plan) = Ok None
-fault_in (Err (refused.Fault code)) = Ok (Some code)
-fault_in (Err refused.Pattern) = Err refused.Pattern
-fault_in (Err refused.Memory) = Err refused.Memory
+fault_in (Err (PlanFault.Fault code)) = Ok (Some code)
+fault_in (Err PlanFault.Pattern) = Err PlanFault.Pattern
+fault_in (Err PlanFault.Memory) = Err PlanFault.Memory
 
 -- why nothing is told of a file that can be read: memory was refused, or a pattern
 abbrev pub Gives : Given → Config → Result Plan PlanFault → Type 0
 Gives g c (Ok plan) = Tells g c plan
-Gives g c (Err (refused.Fault code)) = ⊥
-Gives g c (Err refused.Pattern) = ConfigLacksPatterns c → ⊥
-Gives g c (Err refused.Memory) = ⊤
+Gives g c (Err (PlanFault.Fault code)) = ⊥
+Gives g c (Err PlanFault.Pattern) = ConfigLacksPatterns c → ⊥
+Gives g c (Err PlanFault.Memory) = ⊤
 
 -- the same as the verdict of a check
 abbrev pub refusal : PlanFault → Verdict
-refusal refused.Memory = check.Refused yaml.Memory
-refusal refused.Pattern = check.Misconfigured (keywords.Fault (K13 X8))
-refusal (refused.Fault code) = check.Refused yaml.Memory
+refusal PlanFault.Memory = Verdict.Refused YamlFault.Memory
+refusal PlanFault.Pattern = Verdict.Misconfigured (ConfigFault.Fault (K13 X8))
+refusal (PlanFault.Fault code) = Verdict.Refused YamlFault.Memory
 
 abbrev pub IsRefusal : Verdict → Type 0
-IsRefusal (check.Configures jobs) = ⊥
+IsRefusal (Verdict.Configures jobs) = ⊥
 IsRefusal other = ⊤
 
 -- these are the notes of a text that configures this, by the tree that it has
@@ -107,7 +97,7 @@ IsSaidOf remaining (Err fault) asked (Refused verdict) = TellsUnread (error_kind
 -- it is printed as it is, or of a plan that memory was refused
 abbrev pub IsPrintedOf : Outcome → Outcome → Type 0
 IsPrintedOf (Refused verdict) printed = printed ≡ Refused verdict
-IsPrintedOf (Planned plan notes) printed = (printed ≡ Planned plan notes) ⊎ (printed ≡ Refused (check.Refused yaml.Memory))
+IsPrintedOf (Planned plan notes) printed = (printed ≡ Planned plan notes) ⊎ (printed ≡ Refused (Verdict.Refused YamlFault.Memory))
 
 -- the exit status of a run that tells it: 0 a pipeline, 1 a fault, and of a refused file that of a check
 abbrev pub jobs_status : Result (List PlannedJob) Fault → ℕ

@@ -1,9 +1,8 @@
 -- The text of a plan, line by line and column by column.
 use Rattle.std.specs.Prelude.{ℕ, ◌-◌, ◌^◌, List, [], ◌∷◌, ◌++◌, length, flat_map, Option, Some, None, Result, Ok, Err, codes, decimal}
 use Rattle.std.specs.Fmt.{styled_text, styled_decimal, format_spec}
-use Rattle.ci_values.specs.declared.when.When.{When}
-use Rattle.ci_values.specs.declared.when.When.TheVariants.{OnSuccess, OnFailure, Always, Manual}
-use Rattle.ci_config.specs.Config.{Text}
+use Rattle.ci_machine_steps.specs.Prelude.{When, OnSuccess, OnFailure, Always, Manual}
+use Rattle.ci_graph_layout.specs.Prelude.{Text}
 use Rattle.ci_graph_layout.specs.declared.fault.GraphCode.{GraphCode}
 use Rattle.ci_graph_layout.specs.declared.fault.GraphCode.TheVariants.{G1, G2, G3, G4, G5}
 use Rattle.ci_explain.specs.Verdicts.{report_line}

@@ -1,10 +1,7 @@
 -- What the code has, without where it lies in memory.
 use Rattle.std.specs.Prelude.{ℕ, List, [], ◌∷◌, ◌++◌, map, filter, Option, option_map}
-use Rattle.ci_values.specs.declared.when.When.{When}
-use Rattle.ci_config.specs.Config.{Text, Job, Config}
-use Rattle.ci_config.specs.View.{job_view}
-use Rattle.ci_graph_layout.specs.Inclusion.{Given, IncludedJob, without_rules, included}
-use Rattle.ci_graph_layout.specs.Layout.{put, is_of, predecessors}
+use Rattle.ci_machine_steps.specs.Prelude.{When}
+use Rattle.ci_graph_layout.specs.Prelude.{Text, Job, Config, job_view, Given, IncludedJob, without_rules, included, put, is_of, predecessors}
 use Rattle.ci_plan.specs.Rules.{rule_of}
 use Rattle.ci_plan.specs.Planned.{name_at}
 use Rattle.ci_plan.specs.declared.entries.Entry.{Entry}

@@ -1,7 +1,7 @@
 //! Positions that wait for one another in a circle.
 
 ghost use Rattle.std.specs.Prelude.{◌≡◌, ◌<◌, ◌==◌, ◌&&◌, ℕ, true, false, length, slice_index_or, Contains, IfOk, IfSome, IfNone};
-ghost use Rattle.ci_graph.specs.Pairs.{AreWithin, HasCycle};
+ghost use Rattle.ci_machine.specs.Prelude.{AreWithin, HasCycle};
 ghost use Rattle.ci_plan.specs.Circles.{IsCircle, is_left, IsClosed, KeepsCycles};
 
 use std::alloc::{AllocError, Global};

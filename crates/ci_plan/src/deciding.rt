@@ -1,13 +1,9 @@
 //! Which rule of a job decides, and what it says.
 
 ghost use Rattle.std.specs.Prelude.{◌≡◌, ◌++◌, IfOk, map, flat_map, option_map, unwrap_or};
-ghost use Rattle.ci_expr.specs.Answered.{AreAnswered};
-ghost use Rattle.ci_expr.specs.Built.{values_of, formula_of};
-ghost use Rattle.ci_values.specs.Layers.{layer_view};
-ghost use Rattle.ci_config.specs.View.{config_view, job_view, rule_view, variable_view};
-ghost use Rattle.ci_graph_layout.specs.Inclusion.{ByRule, NoneMatches, seen, holds, deciding, ruled, included};
-ghost use Rattle.ci_graph_layout.specs.Searches.{condition_looks, rule_looks, job_looks};
-ghost use Rattle.ci_graph_layout.specs.View.{given_view};
+ghost use Rattle.ci_graph_layout.specs.Prelude.{AreAnswered, values_of, formula_of, config_view, job_view, rule_view, variable_view, ByRule, NoneMatches, seen, holds, deciding};
+ghost use Rattle.ci_graph_layout.specs.Prelude.{ruled, included, condition_looks, rule_looks, job_looks, given_view};
+ghost use Rattle.ci_machine_steps.specs.Prelude.{layer_view};
 ghost use Rattle.ci_plan.specs.Rules.{number_from, rule_of};
 
 use ci_config::{Config, JobSpec, Rule, RuleWhen};

@@ -1,12 +1,7 @@
 //! The jobs that the pipeline has, in its order, each with what its rules say.
 
 ghost use Rattle.std.specs.Prelude.{◌≡◌, ◌++◌, IfOk, OnOk, map, filter, flat_map, option_map};
-ghost use Rattle.ci_expr.specs.Answered.{AreAnswered};
-ghost use Rattle.ci_config.specs.View.{config_view, job_view};
-ghost use Rattle.ci_graph_layout.specs.Inclusion.{included};
-ghost use Rattle.ci_graph_layout.specs.Layout.{is_of};
-ghost use Rattle.ci_graph_layout.specs.Searches.{job_looks};
-ghost use Rattle.ci_graph_layout.specs.View.{given_view};
+ghost use Rattle.ci_graph_layout.specs.Prelude.{AreAnswered, config_view, job_view, included, is_of, job_looks, given_view};
 ghost use Rattle.ci_plan.specs.Views.{entry_view, taken, all_taken, taken_by_stage};
 
 use crate::deciding::decide;

@@ -1,13 +1,9 @@
 //! The jobs that a fault of the graph is about.
 
 ghost use Rattle.std.specs.Prelude.{◌≡◌, ◌++◌, IfOk, OnOk, map};
-ghost use Rattle.ci_values.specs.Table.{words_view};
-ghost use Rattle.ci_config.specs.View.{job_view, need_view};
-ghost use Rattle.ci_graph.specs.Lists.{number_at};
-ghost use Rattle.ci_graph.specs.Pairs.{HasCycle};
-ghost use Rattle.ci_graph_layout.specs.Inclusion.{without_rules};
-ghost use Rattle.ci_graph_layout.specs.Layout.{ranks, pairs};
-ghost use Rattle.ci_graph_layout.specs.Fault.{needs_of, needs_many, is_unmet, names_later};
+ghost use Rattle.ci_machine_steps.specs.Prelude.{words_view};
+ghost use Rattle.ci_graph_layout.specs.Prelude.{job_view, need_view, without_rules, ranks, pairs, needs_of, needs_many, is_unmet, names_later};
+ghost use Rattle.ci_machine.specs.Prelude.{number_at, HasCycle};
 ghost use Rattle.ci_graph_layout.specs.declared.fault.GraphCode.TheVariants.{G3};
 ghost use Rattle.ci_plan.specs.Planned.{names};
 ghost use Rattle.ci_plan.specs.Faults.{named_need, unmet_of, unmet, later_of, later, many, code_of, IsAbout, IsCircleOf};

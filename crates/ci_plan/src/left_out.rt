@@ -1,10 +1,7 @@
 //! The jobs of the file that the pipeline doesn't have.
 
 ghost use Rattle.std.specs.Prelude.{◌≡◌, IfOk, OnOk, map, flat_map};
-ghost use Rattle.ci_expr.specs.Answered.{AreAnswered};
-ghost use Rattle.ci_config.specs.View.{config_view, job_view};
-ghost use Rattle.ci_graph_layout.specs.Searches.{job_looks};
-ghost use Rattle.ci_graph_layout.specs.View.{given_view};
+ghost use Rattle.ci_graph_layout.specs.Prelude.{AreAnswered, config_view, job_view, job_looks, given_view};
 ghost use Rattle.ci_plan.specs.Rules.{left_out, leaves_out};
 
 use crate::deciding::decide;

@@ -1,14 +1,9 @@
 //! Comparisons in rules that mean something else here than they do in GitLab, since nothing defines a variable of theirs.
 
 ghost use Rattle.std.specs.Prelude.{◌≡◌, [], ◌∷◌, ◌++◌, IfOk, OnOk, option_map, map};
-ghost use Rattle.ci_values.specs.Layers.{layer_view};
-ghost use Rattle.ci_values.specs.Table.{meaning_of};
-ghost use Rattle.ci_yaml_lines.specs.TreeView.{value_view};
-ghost use Rattle.ci_expr.specs.View.{token_view};
-ghost use Rattle.ci_config.specs.Values.{list_of, map_of, text_of};
-ghost use Rattle.ci_config.specs.View.{config_view, pairs_view, values_view};
-ghost use Rattle.ci_graph_layout.specs.Inclusion.{names};
-ghost use Rattle.ci_graph_layout.specs.View.{given_view};
+ghost use Rattle.ci_machine_steps.specs.Prelude.{layer_view, meaning_of};
+ghost use Rattle.ci_config.specs.Prelude.{value_view};
+ghost use Rattle.ci_graph_layout.specs.Prelude.{token_view, list_of, map_of, text_of, config_view, pairs_view, values_view, names, given_view};
 ghost use Rattle.ci_plan.specs.Notes.{is_defined, is_other_of_gitlab, is_of_gitlab, is_sign, variable_of, matters, side, first_compared, compared, compared_in, known, member, rules_in, items_by, condition_in, with_names, of_condition, of_rules, is_noted, each_once, notes_of};
 
 use crate::deciding::seen;

@@ -1,10 +1,8 @@
 //! Where the jobs of the pipeline stand, and which of them waits for which.
 
 ghost use Rattle.std.specs.Prelude.{◌≡◌, ◌++◌, IfOk, OnOk, map, slice_index_or, []};
-ghost use Rattle.ci_values.specs.Table.{words_view};
-ghost use Rattle.ci_config.specs.View.{job_view, need_view};
-ghost use Rattle.ci_graph_layout.specs.Inclusion.{without_rules};
-ghost use Rattle.ci_graph_layout.specs.Layout.{rank, ranks, below, place_of, needed, predecessors, pairs};
+ghost use Rattle.ci_machine_steps.specs.Prelude.{words_view};
+ghost use Rattle.ci_graph_layout.specs.Prelude.{job_view, need_view, without_rules, rank, ranks, below, place_of, needed, predecessors, pairs};
 ghost use Rattle.ci_plan.specs.Planned.{name_at};
 ghost use Rattle.ci_plan.specs.Views.{lined};
 

@@ -1,7 +1,7 @@
 //! What is told of each job of the pipeline.
 
 ghost use Rattle.std.specs.Prelude.{◌≡◌, IfOk, map};
-ghost use Rattle.ci_values.specs.Table.{words_view};
+ghost use Rattle.ci_machine_steps.specs.Prelude.{words_view};
 ghost use Rattle.ci_plan.specs.Planned.{name_at};
 ghost use Rattle.ci_plan.specs.Views.{entry_view, lined, planned_entry};
 

@@ -1,13 +1,9 @@
 //! What a pipeline would be, of what a file configures.
 
 ghost use Rattle.std.specs.Prelude.{◌≡◌, IfOk, map, Ok};
-ghost use Rattle.ci_expr.specs.Answered.{AreAnswered};
-ghost use Rattle.ci_config.specs.View.{config_view};
-ghost use Rattle.ci_graph_layout.specs.Searches.{all_looks};
-ghost use Rattle.ci_graph_layout.specs.View.{given_view};
+ghost use Rattle.ci_graph_layout.specs.Prelude.{AreAnswered, config_view, all_looks, given_view, lineup};
 ghost use Rattle.ci_plan.specs.Said.{Gives, Lays, fault_in, TellsJobs};
 ghost use Rattle.ci_plan.specs.Views.{entry_view, taken};
-ghost use Rattle.ci_graph_layout.specs.Layout.{lineup};
 
 use crate::entries::{Entry, entries};
 use crate::faults::fault_of;

@@ -1,11 +1,10 @@
 //! What is said of bytes before a pipeline is made of them.
 
 ghost use Rattle.std.specs.Prelude.{◌≡◌, ℕ, List, [], IfOk, OnErr};
-ghost use Rattle.ci_yaml_lines.specs.TreeView.{value_view};
-ghost use Rattle.ci_yaml.specs.Document.{HasTree};
-ghost use Rattle.ci_graph_layout.specs.View.{given_view};
-ghost use Rattle.ci_machine_steps.specs.Pipelines.{given_by};
-ghost use Rattle.ci_yaml_lines.specs.declared.code.Code.TheVariants.{Y1};
+ghost use Rattle.ci_config.specs.Prelude.{value_view, Y1};
+ghost use Rattle.ci_yaml.specs.Prelude.{HasTree};
+ghost use Rattle.ci_graph_layout.specs.Prelude.{given_view};
+ghost use Rattle.ci_machine_steps.specs.Prelude.{given_by};
 ghost use Rattle.ci_yaml.specs.declared.fault.YamlFault.TheVariants.{Fault};
 ghost use Rattle.ci_explain.specs.Verdicts.{IsTooLong};
 ghost use Rattle.ci_explain.specs.declared.check.verdict.Verdict.TheVariants as check;

@@ -1,25 +1,12 @@
 -- From what an event did to a store to how it was handled.
-use Rattle.std.specs.Prelude.{ℕ, List, IfOk}
-use Rattle.std.proofs.Common.{◌≡◌, inl, inr, ⊎_elim, Bool, false, List, Result, Ok, Err, refl, sym, ap, subst, ◌∙◌}
+use Rattle.std.proofs.Common.{ℕ, List, IfOk, ◌≡◌, inr, ⊎_elim, Bool, false, Result, Ok, Err, refl, sym, ap, subst, ◌∙◌}
 use Rattle.std.proofs.lemmas.Bool.{false≢true}
-use Rattle.ci_machine.specs.declared.reply.Answer.{Answer}
-use Rattle.ci_machine.specs.declared.change.RowChange.{RowChange}
-use Rattle.ci_machine.specs.declared.request.Event.{Event}
-use Rattle.ci_machine.specs.State.{State, applied}
-use Rattle.ci_machine.specs.Kept.{Kept, cleared, put_rows, written}
-use Rattle.ci_machine_steps.specs.Sound.{IsSound}
-use Rattle.ci_machine_steps.specs.History.{IsReached}
-use Rattle.ci_machine_steps.specs.Step.{Happens, Step}
-use Rattle.ci_store.specs.declared.fault.StoreFault.{StoreFault}
-use Rattle.ci_store.specs.declared.fault.StoreFault.TheVariants.{Memory, Broken}
-use Rattle.ci_store.specs.Store.{Ends, UnlessBroken}
-use Rattle.ci_server.specs.declared.fail_stop.FailStop.{FailStop}
-use Rattle.ci_machine.specs.Reply.{outcome_of}
+use Rattle.ci_machine_steps.specs.Prelude.{Answer, RowChange, Event, State, applied, Kept, cleared, put_rows, written, IsSound, IsReached, Happens, Step, outcome_of}
+use Rattle.ci_server_lookups.specs.Prelude.{StoreFault, Memory, Broken}
+use Rattle.ci_store.specs.Prelude.{Ends}
+use Rattle.ci_server.specs.Prelude.{FailStop, IsKeptOf, Holds, Leaves, Call, answer_by, closed_by, Performs, Handled, answered, no_memory, look_failed, commit_failed, HandlesBy}
 use Rattle.ci_server_events.specs.declared.planned.Beside.{Beside}
 use Rattle.ci_server_events.specs.Planning.{Settles}
-use Rattle.ci_server.specs.Holding.{IsKeptOf, Holds, Leaves}
-use Rattle.ci_server.specs.Handling.{Call, answer_by, closed_by, Performs, Handled, answered, no_memory, look_failed, commit_failed}
-use Rattle.ci_server.specs.Server.{HandlesBy}
 use Rattle.ci_server.proofs.Keeping.{settled}
 use Rattle.ci_server.proofs.Runs.{AllStep, outcome-M16, outcome-M17}
 
@@ -50,12 +37,6 @@ module _ {T : Type 0} (keeps : T → Kept → Type 0) (leaves : T → Kept → K
   performed s k of jobs a changes beside new r does settles same ends =
       subst (λ t. Performs (Holds keeps) (Leaves leaves) as_answer c t new r) of.state
       (performs k (subst (λ t. IsKeptOf t k) (sym of.state) of) jobs a changes beside new r does settles same ends)
-
-  -- the store failed or lacked memory before anything changed
-  pub unplanned : (s : State) (k : Kept) → IsKeptOf s k → (B : Type 0) (fault : StoreFault) (new : T) → UnlessBroken {A = B} (Err fault) (keeps new k) → leaves new k k
-      → Performs (Holds keeps) (Leaves leaves) as_answer c s new (Err fault)
-  unplanned s k of B Memory new held left = record { kept = k; is_of = of; held = held }
-  unplanned s k of B Broken new held left = inl (record { before = k; after = k; is_before = of; is_after = of; left = left })
 
 module _ {T : Type 0} (honest : T → Type 0) (holds : T → State → Type 0) (leaves : T → State → State → Type 0) {A : Type 0} (as_answer : A → Answer) (c : Call) where
   ended : AllStep → (s : State) (new : T) (closed : Bool) (r : Result A StoreFault) (a : Answer) → a ≡ answer_by as_answer c.0 r → closed ≡ closed_by (outcome_of a) false

@@ -1,39 +1,21 @@
 -- What is kept beside a state follows from it: where nothing is kept, after an event, in each file, and once a server is opened.
 use Rattle.std.specs.List.{AllByRecursion}
 use Rattle.std.specs.List.Sorted.{IsStrictlySortedBy}
-use Rattle.std.specs.Ordering.{nat_cmp}
-use Rattle.std.specs.declared.cmp.Ordering.TheVariants.{Less}
-use Rattle.std.proofs.Common.{◌≡◌, inl, inr, ⊎_elim, ℕ, Bool, true, false, List, [], ◌∷◌, map, IsTrue, refl, sym, subst, arith}
-use Rattle.sqlite.specs.Tree.{Trees}
-use Rattle.sqlite.specs.Store.{Ghosts}
-use Rattle.sqlite.specs.Held.{Held, state}
-use Rattle.sqlite.specs.State.{HasCleanDisk}
+use Rattle.std.proofs.Common.{nat_cmp, Less, ◌≡◌, inl, ⊎_elim, ℕ, Bool, true, false, List, [], ◌∷◌, map, IsTrue, refl, sym, subst, arith}
+use Rattle.ci_store.specs.Prelude.{Trees, Ghosts, Held, state, HasCleanDisk}
 use Rattle.ci_memory.specs.declared.remembering.Remembering.{Remembering}
 use Rattle.ci_memory.specs.Right.{IsRight}
 use Rattle.ci_memory_boards.specs.Order.{InOrder}
-use Rattle.ci_machine.specs.declared.change.RowChange.{RowChange}
-use Rattle.ci_machine.specs.declared.records.Attempt.{Attempt}
-use Rattle.ci_machine.specs.declared.records.BoardRow.{BoardRow}
-use Rattle.ci_machine.specs.declared.records.Job.{Job}
-use Rattle.ci_machine.specs.State.{State, empty, job_cmp, attempt_cmp, applied}
-use Rattle.ci_machine.specs.Kept.{Kept, nothing_kept, row_cmp, put_rows, written}
-use Rattle.ci_machine_steps.specs.Sound.{IsSound}
-use Rattle.ci_machine.specs.Statuses.{AreBoard}
-use Rattle.ci_machine.specs.Holders.{AreHolders}
+use Rattle.ci_machine_steps.specs.Prelude.{RowChange, Attempt, BoardRow, Job, State, empty, job_cmp, attempt_cmp, applied, Kept, nothing_kept, row_cmp, put_rows, written, IsSound}
+use Rattle.ci_machine_steps.specs.Prelude.{AreBoard, AreHolders}
 use Rattle.ci_store.specs.Stands as tables
-use Rattle.ci_store_sqlite.specs.Create.{IsBlank}
+use Rattle.ci_store_sqlite.specs.Prelude.{IsBlank, holder_row, StandsIn, IsAt, Rises, StandsIn1, StandsInAny, LeavesAny, HadVersion}
 use Rattle.ci_store_sqlite.specs.Schema as table
-use Rattle.ci_store_sqlite.specs.Rows.{holder_row}
-use Rattle.ci_store_sqlite.specs.Stands.{StandsIn, IsAt, LeavesOnly, Rises}
-use Rattle.ci_store_sqlite.specs.Version1.{StandsIn1, StandsInAny, LeavesAny}
-use Rattle.ci_store_sqlite.specs.AnyVersion.{HadVersion}
-use Rattle.ci_server_lookups.specs.Keeps.{IsKept}
+use Rattle.ci_server_lookups.specs.Prelude.{IsKept}
 use Rattle.ci_server_lookups.proofs.Changes.{state_stays, board_stays}
 use Rattle.ci_server_events.specs.declared.planned.Beside.{Beside}
 use Rattle.ci_server_events.specs.Planning.{Settles}
-use Rattle.ci_server.specs.Holding.{IsKeptOf, StandsAs, StandsFor, KeepsGroups}
-use Rattle.ci_server.specs.declared.fail_stop.FailStop.{FailStop}
-use Rattle.ci_server.specs.Server.{IsHonest, Creates, Opens, FailsToOpen}
+use Rattle.ci_server.specs.Prelude.{IsKeptOf, StandsAs, StandsFor, KeepsGroups, FailStop, IsHonest, Creates, Opens, FailsToOpen}
 
 -- ---- the empty state
 

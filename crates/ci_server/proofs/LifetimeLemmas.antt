@@ -1,20 +1,12 @@
 -- What stands of each server, by the operations that it came of.
 use Rattle.std.proofs.Common.{◌≡◌, ◌⊎◌, inl, inr, ⊎_elim, Bool, true, false, List, [], ◌∷◌, IsTrue, refl, sym, ap, subst, ◌∙◌}
 use Rattle.std.proofs.lemmas.Bool.{false≢true}
-use Rattle.sqlite.specs.Tree.{Trees}
-use Rattle.sqlite.specs.Store.{Ghosts}
-use Rattle.sqlite.specs.Held.{Held, state}
+use Rattle.ci_store.specs.Prelude.{Trees, Ghosts, Held, state}
 use Rattle.ci_memory.specs.declared.remembering.Remembering.{Remembering}
-use Rattle.ci_machine.specs.declared.reply.Answer.{Answer}
-use Rattle.ci_machine.specs.Reply.{Outcome, LackedMemory, StoreFailed, outcome_of}
-use Rattle.ci_machine.specs.State.{State, empty}
-use Rattle.ci_machine_steps.specs.History.{Past, Leads}
-use Rattle.ci_server.specs.Holding.{HoldsIn, LeavesIn, StandsFor}
-use Rattle.ci_server.specs.declared.fail_stop.FailStop.{FailStop}
-use Rattle.ci_server.specs.Handling.{Call, Handled, closed_by, answered, no_memory, look_failed, commit_failed}
-use Rattle.ci_server.specs.Server.{IsHonest, Handles, HandlesEach, Opens, FailsToOpen}
-use Rattle.ci_server.specs.Runs.{line, by_outcome}
-use Rattle.ci_server.specs.Lifetime.{Beginning, was_made, was_found, was_found_shut, Operation, called, opened, unopened, Recovers, Begins, ComesOf, called_each, has_failed, is_of_2, HasNewest, IsHistoryOf, IsReachedBy, LosesNoStep, KeepsItsGroups}
+use Rattle.ci_machine_steps.specs.Prelude.{Answer, Outcome, LackedMemory, StoreFailed, outcome_of, State, empty, Past, Leads}
+use Rattle.ci_server.specs.Prelude.{HoldsIn, LeavesIn, StandsFor, FailStop, Call, Handled, closed_by, answered, no_memory, look_failed, commit_failed, IsHonest, Handles}
+use Rattle.ci_server.specs.Prelude.{HandlesEach, Opens, FailsToOpen, line, by_outcome, Beginning, was_made, was_found, was_found_shut, Operation, called, opened, unopened}
+use Rattle.ci_server.specs.Prelude.{Recovers, Begins, ComesOf, called_each, has_failed, is_of_2, HasNewest, IsHistoryOf, IsReachedBy, LosesNoStep, KeepsItsGroups}
 use Rattle.ci_server.proofs.Keeping.{as_of_2, groups_in, leaves_any, still_stands}
 use Rattle.ci_server.proofs.Runs.{AllLaws, AllStep, outcome-M16, outcome-M17}
 

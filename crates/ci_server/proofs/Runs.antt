@@ -1,25 +1,12 @@
 -- A run goes on by one call.
-use Rattle.std.specs.Prelude.{Result, Ok, Err, IfOk}
-use Rattle.std.proofs.Common.{◌≡◌, ◌⊎◌, inl, inr, ⊎_elim, ℕ, Bool, true, false, List, [], ◌∷◌, ◌++◌, refl, sym, ap, subst, subst₂, append_assoc, append-nil, ◌∙◌}
+use Rattle.std.proofs.Common.{Result, Ok, Err, IfOk, ◌≡◌, ◌⊎◌, inl, inr, ⊎_elim, ℕ, Bool, true, false, List, [], ◌∷◌, ◌++◌, refl, sym, ap, subst, subst₂, append_assoc, append-nil}
+use Rattle.std.proofs.Common.{◌∙◌}
 use Rattle.std.proofs.lemmas.Bool.{false≢true}
-use Rattle.ci_machine.specs.declared.reply.Answer.{Answer}
-use Rattle.ci_machine.specs.declared.request.Event.{Event}
-use Rattle.ci_machine.specs.declared.request.Event.TheVariants as event
-use Rattle.ci_machine.specs.declared.request.Seed.{Seed}
-use Rattle.ci_machine.specs.declared.reply.Code.TheVariants.{M16, M17}
-use Rattle.ci_machine.specs.Reply.{Outcome, Stepped, LackedMemory, StoreFailed, outcome_of}
-use Rattle.ci_machine.specs.State.{State}
-use Rattle.ci_machine_steps.specs.Step.{Step}
-use Rattle.ci_machine_steps.specs.History.{Past, Leads, IsReached}
-use Rattle.ci_machine_steps.specs.Laws.{Laws}
-use Rattle.ci_server.specs.Handling.{Call, refused, Handled, answered, no_memory, look_failed, commit_failed}
-use Rattle.sqlite.specs.Store.{Ghosts}
-use Rattle.sqlite.specs.Held.{Held}
+use Rattle.ci_machine_steps.specs.Prelude.{Answer, Event, Seed, M16, M17, Outcome, Stepped, LackedMemory, StoreFailed, outcome_of, State, Step, Past, Leads, IsReached, Laws}
+use Rattle.ci_server.specs.Prelude.{Call, refused, Handled, answered, no_memory, look_failed, commit_failed, HoldsIn, LeavesIn, FailStop, IsHonest, HandlesBy, HandlesEachBy}
+use Rattle.ci_server.specs.Prelude.{Handles, HandlesEach, closed_by_each, each_refused, line, by_outcome, GoesOn, NoneFailed, IsUnanswered, OneMore, IsRun, Runs}
+use Rattle.ci_store.specs.Prelude.{Ghosts, Held}
 use Rattle.ci_memory.specs.declared.remembering.Remembering.{Remembering}
-use Rattle.ci_server.specs.Holding.{HoldsIn, LeavesIn}
-use Rattle.ci_server.specs.declared.fail_stop.FailStop.{FailStop}
-use Rattle.ci_server.specs.Server.{IsHonest, HandlesBy, HandlesEachBy, Handles, HandlesEach, closed_by_each, each_refused}
-use Rattle.ci_server.specs.Runs.{line, by_outcome, GoesOn, NoneFailed, IsUnanswered, OneMore, IsRun, Runs}
 
 -- the laws of each reached state, and that the machine answers with a step
 abbrev pub AllLaws : Type 0
@@ -30,12 +17,12 @@ AllStep = (s t : State) (e : Event) (now : ℕ) (seed : Seed) (a : Answer) → S
 
 -- the outcomes of the answers that refuse an event
 pub outcome-M16 : (e : Event) → outcome_of (refused e M16) ≡ LackedMemory
-outcome-M16 (event.Request request) = refl
-outcome-M16 event.Sweep = refl
+outcome-M16 (Event.Request request) = refl
+outcome-M16 Event.Sweep = refl
 
 pub outcome-M17 : (e : Event) → outcome_of (refused e M17) ≡ StoreFailed
-outcome-M17 (event.Request request) = refl
-outcome-M17 event.Sweep = refl
+outcome-M17 (Event.Request request) = refl
+outcome-M17 Event.Sweep = refl
 
 -- ---- one call more, in each of the relations
 

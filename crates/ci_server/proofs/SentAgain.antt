@@ -1,22 +1,12 @@
 -- What is sent again leaves a server as it was.
-use Rattle.std.specs.Prelude.{◌≡◌, Bool, List, ◌∷◌}
-use Rattle.std.proofs.Common.{sym, ap, subst, ◌∙◌, inl, inr}
-use Rattle.ci_machine.specs.declared.reply.Answer.{Answer}
-use Rattle.ci_machine.specs.Reply.{Stepped, LackedMemory, StoreFailed, outcome_of}
-use Rattle.ci_machine.specs.State.{State}
+use Rattle.std.proofs.Common.{◌≡◌, Bool, List, ◌∷◌, sym, ap, subst, ◌∙◌, inl, inr}
+use Rattle.ci_machine_steps.specs.Prelude.{Answer, Stepped, LackedMemory, StoreFailed, outcome_of, State, Step, Past, Leads}
 use Rattle.ci_machine.proofs.Keyed.{Has, All-from_has, has_from_all}
-use Rattle.ci_machine_steps.specs.Step.{Step}
-use Rattle.ci_machine_steps.specs.History.{Past, Leads}
 use Rattle.ci_machine_laws.specs.Repeats.{IsTakenEnd, IsAnsweredAgain, RepeatsChangeNothing}
-use Rattle.sqlite.specs.Store.{Ghosts}
-use Rattle.sqlite.specs.Held.{Held}
+use Rattle.ci_store.specs.Prelude.{Ghosts, Held}
 use Rattle.ci_memory.specs.declared.remembering.Remembering.{Remembering}
-use Rattle.ci_server.specs.declared.fail_stop.FailStop.{FailStop}
-use Rattle.ci_server.specs.Holding.{HoldsIn, LeavesIn}
-use Rattle.ci_server.specs.Handling.{Call, Handled, answered, no_memory, look_failed, commit_failed}
-use Rattle.ci_server.specs.Server.{Handles}
-use Rattle.ci_server.specs.Runs.{line, Runs}
-use Rattle.ci_server.specs.Repeats.{IsUnchanged, LeavesRepeats, Repeats, RunsRepeats, LivesRepeat}
+use Rattle.ci_server.specs.Prelude.{FailStop, HoldsIn, LeavesIn, Call, Handled, answered, no_memory, look_failed, commit_failed, Handles, line, Runs, IsUnchanged, LeavesRepeats}
+use Rattle.ci_server.specs.Prelude.{Repeats, RunsRepeats, LivesRepeat}
 use Rattle.ci_server.proofs.Runs.{outcome-M16, outcome-M17}
 
 -- the repeat law of the machine

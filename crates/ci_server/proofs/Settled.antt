@@ -1,23 +1,14 @@
 -- The one history of each life.
 use Rattle.std.proofs.Common.{◌≡◌, ◌⊎◌, inl, inr, ⊎_elim, Bool, true, false, List, [], ◌∷◌, IsTrue, Some, refl, sym, ap, subst, ◌∙◌}
 use Rattle.std.proofs.lemmas.Bool.{false≢true}
-use Rattle.sqlite.specs.Tree.{Trees}
-use Rattle.sqlite.specs.Store.{Ghosts}
-use Rattle.sqlite.specs.Held.{Held, state}
+use Rattle.ci_store.specs.Prelude.{Trees, Ghosts, Held, state}
 use Rattle.ci_memory.specs.declared.remembering.Remembering.{Remembering}
-use Rattle.ci_machine.specs.declared.reply.Answer.{Answer}
-use Rattle.ci_machine.specs.Reply.{Outcome, LackedMemory, StoreFailed, outcome_of}
-use Rattle.ci_machine.specs.State.{State, empty}
-use Rattle.ci_machine.specs.Kept.{Kept}
-use Rattle.ci_machine_steps.specs.History.{Past, Leads}
-use Rattle.ci_store_sqlite.specs.Stands.{StandsIn}
-use Rattle.ci_server.specs.declared.fail_stop.FailStop.{FailStop}
-use Rattle.ci_server.specs.Holding.{IsKeptOf, HoldsIn, LeavesIn, StandsFor}
-use Rattle.ci_server.specs.Handling.{Call, Handled, answered, no_memory, look_failed, commit_failed}
-use Rattle.ci_server.specs.Server.{IsHonest, Handles, Opens, FailsToOpen}
-use Rattle.ci_server.specs.Runs.{line, by_outcome, GoesOn}
-use Rattle.ci_server.specs.Lifetime.{Beginning, was_made, was_found, was_found_shut, earlier_of, Operation, called, opened, unopened, Recovers, Begins, ComesOf, has_failed, is_of_2}
-use Rattle.ci_server.specs.Settled.{first_failed, unanswered, AddsUnanswered, IsFileOf, LeavesOne, LeavesTwo, StandsBy, HasOneHistory}
+use Rattle.ci_machine_steps.specs.Prelude.{Answer, Outcome, LackedMemory, StoreFailed, outcome_of, State, empty, Kept, Past, Leads}
+use Rattle.ci_store_sqlite.specs.Prelude.{StandsIn}
+use Rattle.ci_server.specs.Prelude.{FailStop, IsKeptOf, HoldsIn, LeavesIn, StandsFor, Call, Handled, answered, no_memory, look_failed, commit_failed, IsHonest, Handles, Opens}
+use Rattle.ci_server.specs.Prelude.{FailsToOpen, line, by_outcome, GoesOn, Beginning, was_made, was_found, was_found_shut, earlier_of, Operation, called, opened, unopened}
+use Rattle.ci_server.specs.Prelude.{Recovers, Begins, ComesOf, has_failed, is_of_2, first_failed, unanswered, AddsUnanswered, IsFileOf, LeavesOne, LeavesTwo, StandsBy}
+use Rattle.ci_server.specs.Prelude.{HasOneHistory}
 use Rattle.ci_server.proofs.Keeping.{as_of_2, groups_in, leaves_any, still_stands}
 use Rattle.ci_server.proofs.LifetimeLemmas.{stands}
 use Rattle.ci_server.proofs.Runs.{AllLaws, AllStep, outcome-M16, outcome-M17}

@@ -1,9 +1,7 @@
 -- What a server holds once a sweep has found nothing.
 use Rattle.std.specs.Prelude.{ℕ}
-use Rattle.sqlite.specs.Store.{Ghosts}
-use Rattle.ci_machine.specs.State.{State}
-use Rattle.ci_machine_steps.specs.History.{IsReached}
-use Rattle.ci_machine_steps.specs.Laws.{NoneIsDue, NoneIsRedundant}
+use Rattle.ci_store.specs.Prelude.{Ghosts}
+use Rattle.ci_machine_steps.specs.Prelude.{State, IsReached, NoneIsDue, NoneIsRedundant}
 use Rattle.ci_server.specs.Holding.{HoldsIn}
 use Rattle.ci_server.specs.Server.{IsHonest}
 use Rattle.ci_server.specs.Servers.{ServerOver}

@@ -1,18 +1,7 @@
 -- What one event does: to the store that it is handled over, and to a server.
 use Rattle.std.specs.Prelude.{◌≡◌, ◌⊎◌, ℕ, Bool, true, false, Result, Ok, Err}
-use Rattle.ci_machine.specs.declared.reply.Answer.{Answer}
-use Rattle.ci_machine.specs.declared.reply.Answer.TheVariants as answer
-use Rattle.ci_machine.specs.declared.reply.Code.{Code}
-use Rattle.ci_machine.specs.declared.reply.Code.TheVariants.{M16, M17}
-use Rattle.ci_machine.specs.declared.reply.Swept.TheVariants as swept
-use Rattle.ci_machine.specs.declared.request.Event.{Event}
-use Rattle.ci_machine.specs.declared.request.Event.TheVariants as event
-use Rattle.ci_machine.specs.declared.request.Seed.{Seed}
-use Rattle.ci_machine.specs.Reply.{refusal, Outcome, Stepped, LackedMemory, StoreFailed}
-use Rattle.ci_machine.specs.State.{State}
-use Rattle.ci_machine_steps.specs.Step.{Step}
-use Rattle.ci_store.specs.declared.fault.StoreFault.{StoreFault}
-use Rattle.ci_store.specs.declared.fault.StoreFault.TheVariants.{Memory, Broken}
+use Rattle.ci_machine_steps.specs.Prelude.{Answer, Code, M16, M17, Swept, Event, Seed, refusal, Outcome, Stepped, LackedMemory, StoreFailed, State, Step}
+use Rattle.ci_server_lookups.specs.Prelude.{StoreFault, Memory, Broken}
 
 -- an event, with its moment and its seed
 abbrev pub Call : Type 0
@@ -20,8 +9,8 @@ Call = Event × ℕ × Seed
 
 -- the answer that refuses an event
 abbrev pub refused : Event → Code → Answer
-refused (event.Request request) code = answer.Reply (refusal code)
-refused event.Sweep code = answer.Swept (swept.Refused code)
+refused (Event.Request request) code = Answer.Reply (refusal code)
+refused Event.Sweep code = Answer.Swept (Swept.Refused code)
 
 -- the code of the refusal for a fault of the store
 abbrev pub code_of : StoreFault → Code

@@ -1,22 +1,13 @@
 -- What the store of a server holds: a state, and beside it what follows from it: the rows of its jobs' statuses, the resource groups that
 -- are held, and the pipelines that aren't finished.
 use Rattle.std.specs.Prelude.{◌≡◌, Bool, true, false, List, map}
-use Rattle.sqlite.specs.Tree.{Trees}
-use Rattle.sqlite.specs.Store.{Ghosts}
-use Rattle.sqlite.specs.Held.{Held}
+use Rattle.ci_store.specs.Prelude.{Trees, Ghosts, Held}
 use Rattle.ci_memory.specs.declared.remembering.Remembering.{Remembering}
 use Rattle.ci_memory.specs.Right.{IsRight}
-use Rattle.ci_machine.specs.declared.records.Holder.{Holder}
-use Rattle.ci_machine.specs.State.{State}
-use Rattle.ci_machine.specs.Kept.{Kept}
-use Rattle.ci_machine.specs.Statuses.{AreBoard}
-use Rattle.ci_machine.specs.Holders.{AreHolders}
-use Rattle.ci_machine.specs.Indexes.{AreIndexes}
+use Rattle.ci_machine_steps.specs.Prelude.{Holder, State, Kept, AreBoard, AreHolders, AreIndexes}
 use Rattle.ci_store.specs.Stands as tables
 use Rattle.ci_store_sqlite.specs.Schema as table
-use Rattle.ci_store_sqlite.specs.Rows.{holder_row}
-use Rattle.ci_store_sqlite.specs.Stands.{StandsIn, LeavesOnly, LeavesEither}
-use Rattle.ci_store_sqlite.specs.Version1.{StandsInAny}
+use Rattle.ci_store_sqlite.specs.Prelude.{holder_row, StandsIn, LeavesOnly, LeavesEither, StandsInAny}
 
 -- what is kept is this state, and all that is beside it follows from it
 pub record IsKeptOf (s : State) (k : Kept) : Type 0 where

@@ -8,3 +8,4 @@ pub mod Settled
 pub mod Reports
 pub mod Repeats
 pub mod Due
+pub mod Prelude

@@ -1,17 +1,10 @@
 -- What is done with a server over its whole life: events, stops and openings; and the history that leads to what it holds. A life may go on from
 -- that of an earlier program, whose store is of version 1.
 use Rattle.std.specs.Prelude.{◌≡◌, ◌⊎◌, Bool, true, false, not, List, [], ◌∷◌, IsTrue}
-use Rattle.sqlite.specs.Tree.{Trees}
-use Rattle.sqlite.specs.Store.{Ghosts}
-use Rattle.sqlite.specs.Held.{Held, state}
+use Rattle.ci_store.specs.Prelude.{Trees, Ghosts, Held, state}
 use Rattle.ci_memory.specs.declared.remembering.Remembering.{Remembering}
-use Rattle.ci_machine.specs.declared.reply.Answer.{Answer}
-use Rattle.ci_machine.specs.Reply.{outcome_of}
-use Rattle.ci_machine.specs.State.{State}
-use Rattle.ci_machine.specs.Kept.{Kept}
-use Rattle.ci_machine_steps.specs.History.{Past, Leads}
-use Rattle.ci_machine_steps.specs.Laws.{Laws}
-use Rattle.ci_store_sqlite.specs.Version1.{LeavesAny}
+use Rattle.ci_machine_steps.specs.Prelude.{Answer, outcome_of, State, Kept, Past, Leads, Laws}
+use Rattle.ci_store_sqlite.specs.Prelude.{LeavesAny}
 use Rattle.ci_server.specs.declared.fail_stop.FailStop.{FailStop}
 use Rattle.ci_server.specs.Holding.{IsKeptOf, HoldsIn, StandsFor, KeepsGroups}
 use Rattle.ci_server.specs.Handling.{Call, closed_by}

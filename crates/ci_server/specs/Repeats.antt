@@ -1,12 +1,8 @@
 -- What a server makes of what a runner sends again: it holds what it held.
 use Rattle.std.specs.Prelude.{◌≡◌, ◌⊎◌, Bool, true, false, List, All}
-use Rattle.ci_machine.specs.declared.reply.Answer.{Answer}
-use Rattle.ci_machine.specs.Reply.{Stepped, outcome_of}
-use Rattle.ci_machine.specs.State.{State}
-use Rattle.ci_machine_steps.specs.History.{Past, Leads}
+use Rattle.ci_machine_steps.specs.Prelude.{Answer, Stepped, outcome_of, State, Past, Leads}
 use Rattle.ci_machine_laws.specs.Repeats.{WasJustSent, IsTakenEnd, IsAnsweredAgain, RepeatsChangeNothing}
-use Rattle.sqlite.specs.Store.{Ghosts}
-use Rattle.sqlite.specs.Held.{Held}
+use Rattle.ci_store.specs.Prelude.{Ghosts, Held}
 use Rattle.ci_memory.specs.declared.remembering.Remembering.{Remembering}
 use Rattle.ci_server.specs.declared.fail_stop.FailStop.{FailStop}
 use Rattle.ci_server.specs.Holding.{HoldsIn, LeavesIn}

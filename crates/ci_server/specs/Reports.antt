@@ -1,21 +1,10 @@
 -- What a report does to a server: it tells what the server holds, and changes nothing.
 use Rattle.std.specs.Prelude.{◌≡◌, ℕ, Bool, true, false, List, Option, Result, Ok, Err}
 use Rattle.std.specs.Global.{Vec}
-use Rattle.sqlite.specs.Store.{Ghosts}
-use Rattle.sqlite.specs.Held.{Held}
+use Rattle.ci_store.specs.Prelude.{Ghosts, Held}
 use Rattle.ci_memory.specs.declared.remembering.Remembering.{Remembering}
-use Rattle.ci_machine.specs.declared.records.BoardRow.{BoardRow}
-use Rattle.ci_machine.specs.declared.reply.Code.{Code}
-use Rattle.ci_machine.specs.declared.reply.Code.TheVariants.{M16, M17}
-use Rattle.ci_machine.specs.declared.report.QueueRow.{QueueRow}
-use Rattle.ci_machine.specs.declared.report.PipelineRows.{PipelineRows}
-use Rattle.ci_machine.specs.declared.report.RunnerRow.{RunnerRow}
-use Rattle.ci_machine.specs.Lookups.{pipeline_at}
-use Rattle.ci_machine.specs.ReportRows.{queue_rows, runner_rows}
-use Rattle.ci_machine.specs.State.{State}
-use Rattle.ci_machine.specs.Statuses.{AreBoard}
-use Rattle.ci_machine_steps.specs.History.{IsReached}
-use Rattle.ci_store.specs.declared.fault.StoreFault.{StoreFault}
+use Rattle.ci_machine_steps.specs.Prelude.{BoardRow, Code, M16, M17, QueueRow, PipelineRows, RunnerRow, pipeline_at, queue_rows, runner_rows, State, AreBoard, IsReached}
+use Rattle.ci_server_lookups.specs.Prelude.{StoreFault}
 use Rattle.ci_server_events.specs.Told.{TellsPipeline}
 use Rattle.ci_server.specs.declared.fail_stop.FailStop.{FailStop}
 use Rattle.ci_server.specs.Handling.{code_of}
@@ -35,6 +24,10 @@ TellsPipelineAt id s told = (board : List BoardRow) × AreBoard s board × Tells
 -- the runners, by number
 abbrev pub TellsRunners : State → Vec RunnerRow → Type 0
 TellsRunners s told = told.items ≡ runner_rows s
+
+-- nothing: what was looked up is remembered alone
+abbrev pub TellsNothing : State → Unit {0} → Type 0
+TellsNothing s told = Unit {0}
 
 -- ---- the answer
 

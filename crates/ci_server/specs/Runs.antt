@@ -1,12 +1,7 @@
 -- What a list of calls leaves: the history of the machine, and what a stop leaves of it.
 use Rattle.std.specs.Prelude.{◌≡◌, ◌⊎◌, Bool, true, false, List, [], ◌∷◌}
-use Rattle.ci_machine.specs.declared.reply.Answer.{Answer}
-use Rattle.ci_machine.specs.Reply.{Outcome, Stepped, LackedMemory, StoreFailed, outcome_of}
-use Rattle.ci_machine.specs.State.{State}
-use Rattle.ci_machine_steps.specs.History.{Past, Leads}
-use Rattle.ci_machine_steps.specs.Laws.{Laws}
-use Rattle.sqlite.specs.Store.{Ghosts}
-use Rattle.sqlite.specs.Held.{Held}
+use Rattle.ci_machine_steps.specs.Prelude.{Answer, Outcome, Stepped, LackedMemory, StoreFailed, outcome_of, State, Past, Leads, Laws}
+use Rattle.ci_store.specs.Prelude.{Ghosts, Held}
 use Rattle.ci_memory.specs.declared.remembering.Remembering.{Remembering}
 use Rattle.ci_server.specs.Holding.{HoldsIn, LeavesIn}
 use Rattle.ci_server.specs.Handling.{Call}

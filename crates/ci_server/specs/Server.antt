@@ -4,22 +4,12 @@ use Rattle.std.specs.Prelude.{◌≡◌, Bool, true, false, List, [], ◌∷◌,
 use Rattle.std.specs.Coded.{Coded, coded×, coded_bool}
 use base.Stored.{coded_via}
 use Rattle.std.proofs.Common.{ap}
-use Rattle.sqlite.specs.State.{HasCleanDisk}
-use Rattle.sqlite.specs.Store.{Ghosts}
-use Rattle.sqlite.specs.Held.{Held, state}
+use Rattle.ci_store.specs.Prelude.{HasCleanDisk, Ghosts, Held, state}
 use Rattle.ci_memory.specs.declared.memory.Memory as memory
 use Rattle.ci_memory.specs.declared.remembering.Remembering.{Remembering}
-use Rattle.ci_machine.specs.declared.reply.Answer.{Answer}
-use Rattle.ci_machine.specs.declared.reply.Code.TheVariants.{M17}
-use Rattle.ci_machine.specs.State.{State, empty}
-use Rattle.ci_machine.specs.Kept.{Kept, nothing_kept}
-use Rattle.ci_machine_steps.specs.History.{IsReached}
-use Rattle.ci_store_sqlite.specs.Create.{IsBlank}
-use Rattle.ci_store_sqlite.specs.Stands.{IsAt, LeavesOnly}
-use Rattle.ci_store_sqlite.specs.Version1.{LeavesAny}
-use Rattle.ci_store_sqlite.specs.AnyVersion.{HadVersion}
+use Rattle.ci_machine_steps.specs.Prelude.{Answer, M17, State, empty, Kept, nothing_kept, IsReached, outcome_of}
+use Rattle.ci_store_sqlite.specs.Prelude.{IsBlank, IsAt, LeavesOnly, LeavesAny, HadVersion}
 use Rattle.ci_server.specs.declared.fail_stop.FailStop.{FailStop}
-use Rattle.ci_machine.specs.Reply.{outcome_of}
 use Rattle.ci_server.specs.Holding.{IsKeptOf, HoldsIn, LeavesIn}
 use Rattle.ci_server.specs.Handling.{Call, refused, Handled, closed_by}
 

@@ -1,5 +1,5 @@
 -- What the clauses of the crates above see of a server.
-use Rattle.sqlite.specs.Held.{Held}
+use Rattle.ci_store.specs.Prelude.{Held}
 use Rattle.ci_memory.specs.declared.remembering.Remembering.{Remembering}
 use Rattle.ci_server.specs.declared.fail_stop.FailStop.{FailStop}
 

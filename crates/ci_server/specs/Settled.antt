@@ -1,14 +1,8 @@
 -- The one history of a life: what is settled of a server by each operation, and never chosen again.
 use Rattle.std.specs.Prelude.{◌≡◌, ◌⊎◌, Bool, true, false, List, [], ◌∷◌, Option, Some, None}
-use Rattle.sqlite.specs.Tree.{Trees}
-use Rattle.sqlite.specs.Store.{Ghosts}
-use Rattle.sqlite.specs.Held.{Held, state}
+use Rattle.ci_store.specs.Prelude.{Trees, Ghosts, Held, state}
 use Rattle.ci_memory.specs.declared.remembering.Remembering.{Remembering}
-use Rattle.ci_machine.specs.declared.reply.Answer.{Answer}
-use Rattle.ci_machine.specs.Reply.{Outcome, Stepped, LackedMemory, StoreFailed, outcome_of}
-use Rattle.ci_machine.specs.State.{State}
-use Rattle.ci_machine_steps.specs.History.{Past, Leads}
-use Rattle.ci_machine_steps.specs.Laws.{Laws}
+use Rattle.ci_machine_steps.specs.Prelude.{Answer, Outcome, Stepped, LackedMemory, StoreFailed, outcome_of, State, Past, Leads, Laws}
 use Rattle.ci_server.specs.declared.fail_stop.FailStop.{FailStop}
 use Rattle.ci_server.specs.Holding.{HoldsIn, StandsFor, KeepsGroups}
 use Rattle.ci_server.specs.Handling.{Call}

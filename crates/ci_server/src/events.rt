@@ -3,12 +3,8 @@
 ghost use Rattle.std.specs.Prelude.{◌≡◌, ℕ, IfOk};
 ghost use Rattle.ci_machine.specs.declared.reply.Answer.TheVariants as answer;
 ghost use Rattle.ci_machine.specs.declared.request.Event.TheVariants as event;
-ghost use Rattle.ci_machine.specs.declared.request.Request.TheVariants.{PruneOne};
-ghost use Rattle.ci_machine.specs.declared.request.Seed.{Seed};
-ghost use Rattle.ci_machine.specs.State.{State};
-ghost use Rattle.ci_machine.specs.Kept.{Kept, cleared, written};
-ghost use Rattle.ci_machine_steps.specs.Sound.{IsSound};
-ghost use Rattle.ci_store.specs.Store.{Ends};
+ghost use Rattle.ci_machine_steps.specs.Prelude.{PruneOne, Seed, State, Kept, cleared, written, IsSound};
+ghost use Rattle.ci_store.specs.Prelude.{Ends};
 ghost use Rattle.ci_server.specs.Handling.{Performs};
 ghost use Rattle.ci_server.specs.Holding.{Holds, Leaves};
 

@@ -3,12 +3,10 @@
 ghost use Rattle.std.specs.Prelude.{◌≡◌, ◌<◌, ◌≤◌, ◌+◌, ◌++◌, ◌∷◌, [], false, IfOk, OnErr, vec_len, vec_capacity};
 ghost use Rattle.ci_machine.specs.declared.reply.Answer.TheVariants as answer;
 ghost use Rattle.ci_machine.specs.declared.request.Event.TheVariants as event;
-ghost use Rattle.ci_machine.specs.declared.request.Seed.{Seed};
-ghost use Rattle.ci_machine.specs.declared.request.Request.{Request};
-ghost use Rattle.ci_machine.specs.Reply.{outcome_by, outcome_of};
+ghost use Rattle.ci_machine_steps.specs.Prelude.{Seed, Request, outcome_by, outcome_of};
 ghost use Rattle.ci_server.specs.Handling.{refused, code_of, answer_by, closed_by};
 ghost use Rattle.ci_server.specs.Holding.{Holds, Leaves};
-ghost use Rattle.ci_server.specs.Reports.{ReportsBy, TellsQueue, TellsPipelineAt, TellsRunners, report_of, closed_after};
+ghost use Rattle.ci_server.specs.Reports.{ReportsBy, TellsQueue, TellsPipelineAt, TellsRunners, TellsNothing, report_of, closed_after};
 ghost use Rattle.ci_server.specs.Server.{HandlesBy, HandlesEachBy};
 
 use crate::events;
@@ -20,6 +18,7 @@ use ci_machine_laws::laws::{a_step_is_answered, sound_of_each_reached_state};
 use ci_server_events::overview::pipeline::pipeline_rows;
 use ci_server_events::overview::queue::queue_rows;
 use ci_server_events::overview::runners::runner_rows;
+use ci_server_events::prepare::prepare;
 use ci_server_lookups::searches::Searches;
 use ci_store::fault::StoreFault;
 use std::alloc::{AllocError, Global};
@@ -104,6 +103,19 @@ impl<T: Searches> FailStop<T> {
             return Err(Code::M17);
         }
         let told = report_of(runner_rows(alloc, &mut self.store));
+        self.closed = is_report_fault(&told);
+        told
+    }
+
+    /// Looks up what the first poll of a runner would, so that it needn't: what is pending is remembered then. It tells nothing. Errors: as `queue`.
+    pub(crate) fn prepare(&mut self, alloc: Global) -> Result<(), Code>
+        ensures { ReportsBy T.honest (Holds T.holds) (Leaves T.leaves) self.old self.new TellsNothing result }
+    {
+        sound_of_each_reached_state();
+        if self.closed {
+            return Err(Code::M17);
+        }
+        let told = report_of(prepare(alloc, &mut self.store));
         self.closed = is_report_fault(&told);
         told
     }

@@ -1,9 +1,9 @@
 //! What stands over the whole life of a server: its calls, and its stops and openings between and within them.
 
 ghost use Rattle.std.specs.Prelude.{List};
-ghost use Rattle.sqlite.specs.Held.{Held};
+ghost use Rattle.ci_store.specs.Prelude.{Held};
 ghost use Rattle.ci_memory.specs.declared.remembering.Remembering.{Remembering};
-ghost use Rattle.ci_machine.specs.declared.reply.Answer.{Answer};
+ghost use Rattle.ci_machine_steps.specs.Prelude.{Answer};
 ghost use Rattle.ci_server.specs.declared.fail_stop.FailStop.{FailStop};
 ghost use Rattle.ci_server.specs.Handling.{Call};
 ghost use Rattle.ci_server.specs.Server.{IsHonest, HandlesEach};

@@ -1,22 +1,15 @@
 //! The server: requests and sweeps over the tables.
 
 ghost use Rattle.std.specs.Prelude.{◌≡◌, ◌≢◌, ◌⊎◌, ◌∷◌, [], false, true, codes, IfOk, IfErr, OnErr};
-ghost use Rattle.sqlite.specs.State.{HasCleanDisk};
-ghost use Rattle.sqlite.specs.Held.{state};
+ghost use Rattle.ci_store.specs.Prelude.{HasCleanDisk, state, Trees};
 ghost use Rattle.ci_memory.specs.declared.remembering.Remembering.{Remembering};
-ghost use Rattle.sqlite.specs.Tree.{Trees};
 ghost use Rattle.ci_machine.specs.declared.reply.Answer.TheVariants as answer;
 ghost use Rattle.ci_machine.specs.declared.request.Event.TheVariants as event;
-ghost use Rattle.ci_machine.specs.declared.request.Seed.{Seed};
-ghost use Rattle.ci_machine.specs.Kept.{Kept, nothing_kept};
-ghost use Rattle.ci_store_sqlite.specs.Create.{IsBlank};
-ghost use Rattle.ci_store_sqlite.specs.Open.{HasNumber, IsFailure, LeavesNoMore};
-ghost use Rattle.ci_store_sqlite.specs.Stands.{StandsIn, LeavesOnly};
-ghost use Rattle.ci_store_sqlite.specs.Version1.{LeavesAny};
-ghost use Rattle.ci_store_sqlite.specs.AnyVersion.{BlamesAny};
+ghost use Rattle.ci_machine_steps.specs.Prelude.{Seed, Kept, nothing_kept};
+ghost use Rattle.ci_store_sqlite.specs.Prelude.{IsBlank, HasNumber, IsFailure, LeavesNoMore, StandsIn, LeavesOnly, LeavesAny, BlamesAny};
 ghost use Rattle.ci_memory_boards.specs.Order.{InOrder};
 ghost use Rattle.ci_memory.specs.Right.{IsRight};
-ghost use Rattle.ci_server.specs.Reports.{Reports, TellsQueue, TellsPipelineAt, TellsRunners};
+ghost use Rattle.ci_server.specs.Reports.{Reports, TellsNothing, TellsQueue, TellsPipelineAt, TellsRunners};
 ghost use Rattle.ci_server.specs.Server.{Handles, HandlesEach, Creates, Opens, closed_by_each, each_refused};
 ghost use Rattle.ci_server.specs.Runs.{Runs};
 ghost use Rattle.ci_server.specs.Repeats.{Repeats, RunsRepeats};
@@ -204,6 +197,14 @@ impl<S: Alter> Server<S> {
         ensures told { Reports S.Store self.old self.new TellsRunners result }
     {
         self.inner.runners(alloc)
+    }
+
+    /// Looks up what the first poll of a runner would, so that it needn't: for a server that was just opened. It changes nothing, and tells nothing.
+    /// Errors: as `queue`.
+    pub fn prepare(&mut self, alloc: Global) -> Result<(), Code>
+        ensures told { Reports S.Store self.old self.new TellsNothing result }
+    {
+        self.inner.prepare(alloc)
     }
 
     /// Handles events one after the other, each at its moment and with its seed.

@@ -1,67 +1,26 @@
 -- A user acts on jobs: what is looked up of their pipeline gives the plan.
-use Rattle.std.specs.Prelude.{◌≡◌, ℕ, ◌+◌, ◌<◌, Bool, true, false, ◌==◌, List, [], ◌∷◌, ◌++◌, length, map, filter, find, take, All, Contains, if◌then◌else◌, Option, Some, None, Result, Ok, Err, slice_index_or}
-use Rattle.std.proofs.Common.{refl, sym, ap, subst, ◌∙◌, ⊎_elim, arith, eq-eqb, eqb-true}
+use Rattle.std.proofs.Common.{◌≡◌, ℕ, ◌+◌, ◌<◌, Bool, true, false, ◌==◌, List, [], ◌∷◌, ◌++◌, length, map, filter, find, take, All, Contains, if◌then◌else◌, Option, Some, None}
+use Rattle.std.proofs.Common.{Result, Ok, Err, slice_index_or, refl, sym, ap, subst, ◌∙◌, ⊎_elim, arith, eq-eqb, eqb-true}
 use Rattle.std.proofs.Math.Seq.{take-length}
 use Rattle.std.proofs.lemmas.List.{get_or_default, map_more}
 use Rattle.std.proofs.lemmas.List.Elements.{All-filter, All-contains_itself}
 use Rattle.std.proofs.lemmas.Bool.{cond_both, cond-true, eqb-false}
 use Rattle.std.specs.List.{AllByRecursion}
-use Rattle.ci_board.specs.declared.facts.Row.{Row}
-use Rattle.ci_board.specs.declared.facts.Status.{Status}
-use Rattle.ci_board.specs.Rows.{no_row, row_at}
-use Rattle.ci_machine.specs.declared.records.Job.{Job}
-use Rattle.ci_machine.specs.declared.records.Need.{Need}
-use Rattle.ci_machine.specs.declared.records.Attempt.{Attempt}
-use Rattle.ci_machine.specs.declared.records.Pipeline.{Pipeline}
-use Rattle.ci_machine.specs.declared.records.BoardRow.{BoardRow}
-use Rattle.ci_machine.specs.declared.records.Claim.{Claim}
-use Rattle.ci_machine.specs.declared.records.GroupMode.{GroupMode}
-use Rattle.ci_machine.specs.declared.records.WaitingJob.{WaitingJob}
-use Rattle.ci_machine.specs.declared.change.RowChange.{RowChange}
-use Rattle.ci_machine.specs.declared.change.RowChange.TheVariants.{Put}
-use Rattle.ci_machine.specs.declared.change.Record.TheVariants as row
-use Rattle.ci_machine.specs.declared.change.IndexChange.{IndexChange}
-use Rattle.ci_machine.specs.declared.records.Project.{Project}
-use Rattle.ci_machine.specs.declared.request.JobQuery.{JobQuery}
-use Rattle.ci_machine.specs.declared.request.PipelineQuery.{PipelineQuery}
-use Rattle.ci_machine.specs.declared.reply.Code.{Code}
-use Rattle.ci_machine.specs.declared.reply.Code.TheVariants.{M2, M3, M12}
-use Rattle.ci_machine.specs.declared.reply.Reply.{Reply}
-use Rattle.ci_machine.specs.declared.reply.Swept.{Swept}
-use Rattle.ci_machine.specs.State.{State, applied, changed}
-use Rattle.ci_machine.specs.Kept.{Kept, put_rows, indexed_all, written}
-use Rattle.ci_machine_steps.specs.Sound.{IsSound}
-use Rattle.ci_machine.specs.Indexes.{AreIndexes}
-use Rattle.ci_machine.specs.Eligible.{is_free}
-use Rattle.ci_machine.specs.Groups.{Groups, held_claim, waiting_claim, is_first, claims_ahead, claims_on}
-use Rattle.ci_machine.specs.Holders.{holders, AreHolders}
-use Rattle.ci_machine.specs.Waiting.{waiting, groups_with, claims_in}
-use Rattle.ci_machine.specs.Bodies.{status_of_jobs}
-use Rattle.ci_machine.specs.Statuses.{jobs_of, facts_of, rows_of, status_for, AreBoard}
-use Rattle.ci_machine_steps.specs.Plans.{Plan, refused, asked_project}
-use Rattle.ci_machine_steps.specs.Shows.{job_shown, pipeline_shown, job_within, asked_job, asked_pipeline}
-use Rattle.ci_machine.specs.Options.{plain_options}
-use Rattle.ci_machine_steps.specs.Step.{project_with, pipeline_at, job_at, pipeline_of, project_or_none, queued, with_status, found_job, found_pipeline}
-use Rattle.ci_machine_steps.specs.Sweeps.{sweep}
-use Rattle.ci_machine_steps.specs.Acts.{ActsOn, ShowsJobAfter, ShowsPipelineAfter}
-use Rattle.ci_machine_steps.specs.Plays.{play}
-use Rattle.ci_machine_steps.specs.Retries.{retry}
-use Rattle.ci_machine_steps.specs.Cancels.{cancel, cancelled_attempt, cancellable_jobs, CancelsSome}
+use Rattle.ci_machine_steps.specs.Prelude.{Row, Status, no_row, Job, Need, Attempt, Pipeline, BoardRow, Claim, GroupMode, WaitingJob, RowChange, Put, Record, IndexChange, Project}
+use Rattle.ci_machine_steps.specs.Prelude.{JobQuery, PipelineQuery, Code, M2, M3, M12, Reply, Swept, State, applied, changed, Kept, put_rows, indexed_all, written, IsSound}
+use Rattle.ci_machine_steps.specs.Prelude.{AreIndexes, is_free, Groups, held_claim, waiting_claim, is_first, claims_ahead, claims_on, holders, AreHolders, waiting, groups_with}
+use Rattle.ci_machine_steps.specs.Prelude.{claims_in, status_of_jobs, jobs_of, facts_of, rows_of, status_for, AreBoard, Plan, refused, asked_project, job_shown, pipeline_shown}
+use Rattle.ci_machine_steps.specs.Prelude.{job_within, asked_job, asked_pipeline, plain_options, project_with, pipeline_at, job_at, pipeline_of, project_or_none, queued}
+use Rattle.ci_machine_steps.specs.Prelude.{with_status, found_job, found_pipeline, sweep, ActsOn, ShowsJobAfter, ShowsPipelineAfter, play, retry, cancel, cancelled_attempt}
+use Rattle.ci_machine_steps.specs.Prelude.{cancellable_jobs, CancelsSome}
+use Rattle.ci_board.specs.Prelude.{row_at}
 use Rattle.ci_machine.proofs.Keyed.{Has, All-from_has, filter_has, has_from_contains, contains_from_has, has_from_all, find_has}
 use Rattle.ci_machine_steps.proofs.Sound.{sound}
-use Rattle.ci_machine_statuses.specs.declared.act.Act.{Act}
-use Rattle.ci_machine_statuses.specs.declared.act.Act.TheVariants.{Play, Retry, Cancel}
-use Rattle.ci_machine_statuses.specs.declared.outcome.Outcome.{Outcome}
-use Rattle.ci_machine_statuses.specs.Acts.{is_permitted, marked, ended_leases, act_changes, is_acted_on, acted_jobs, acted_state, shows_job_by, shows_pipeline_by, IsOutcome}
-use Rattle.ci_machine_statuses.specs.Lookups.{AreRecords}
-use Rattle.ci_store.specs.declared.fault.StoreFault.{StoreFault}
-use Rattle.ci_store.specs.Store.{LoadsBy}
-use Rattle.ci_machine_statuses.specs.HolderChanges.{of_pipeline, unleased}
+use Rattle.ci_server_lookups.specs.Prelude.{Act, Play, Retry, Cancel, Outcome, is_permitted, marked, ended_leases, act_changes, is_acted_on, acted_jobs, acted_state, shows_job_by}
+use Rattle.ci_server_lookups.specs.Prelude.{shows_pipeline_by, IsOutcome, AreRecords, StoreFault, of_pipeline, unleased, AreOf, IsWhole, HoldAlike, FreeAlike, still_held, IsKept}
+use Rattle.ci_store.specs.Prelude.{LoadsBy}
 use Rattle.ci_server_lookups.specs.declared.records.Records.{Records}
 use Rattle.ci_server_lookups.specs.declared.records.Whole.{Whole}
-use Rattle.ci_server_lookups.specs.Records.{AreOf, IsWhole}
-use Rattle.ci_server_lookups.specs.Held.{HoldAlike, FreeAlike, still_held}
-use Rattle.ci_server_lookups.specs.Keeps.{IsKept}
 use Rattle.ci_server_lookups.proofs.Loading.{ends, says}
 use Rattle.ci_server_lookups.proofs.Changes.{state_stays}
 use Rattle.ci_server_lookups.proofs.Claiming.{with_alike}
@@ -151,11 +110,11 @@ chosen_are act only k n w o chosen whole outcome are =
     no_job = record { id = 0; pipeline = 0; position = 0; name = []; stage = []; options = plain_options []; played = false; cancelled = false; set_aside = 0 }
 
 -- what marks jobs, and ends attempts, leaves pipelines and modes
-both_left : (F : Job → Job) (G : Attempt → Attempt) (js : List Job) (attempts : List Attempt) (s : State) → let t = applied (map (λ j. Put (row.Job (F j))) js ++ map (λ a. Put (row.Attempt (G a))) attempts) s in
+both_left : (F : Job → Job) (G : Attempt → Attempt) (js : List Job) (attempts : List Attempt) (s : State) → let t = applied (map (λ j. Put (Record.Job (F j))) js ++ map (λ a. Put (Record.Attempt (G a))) attempts) s in
     (t.pipelines ≡ s.pipelines) × (t.modes ≡ s.modes)
 both_left F G [] [] s = (refl, refl)
-both_left F G [] (a ∷ rest) s = both_left F G [] rest (changed (Put (row.Attempt (G a))) s)
-both_left F G (j ∷ js) attempts s = both_left F G js attempts (changed (Put (row.Job (F j))) s)
+both_left F G [] (a ∷ rest) s = both_left F G [] rest (changed (Put (Record.Attempt (G a))) s)
+both_left F G (j ∷ js) attempts s = both_left F G js attempts (changed (Put (Record.Job (F j))) s)
 
 -- so does an act
 act_leaves : (act : Act) (s : State) (js : List Job) → let t = applied (act_changes act s js) s in (t.pipelines ≡ s.pipelines) × (t.modes ≡ s.modes)

@@ -1,29 +1,13 @@
 -- A new pipeline: what its file lays out is made, with what stands beside it.
-use Rattle.std.specs.Prelude.{◌≡◌, ℕ, List, [], map, length, replicate, option_to_list, Some, Ok}
-use Rattle.std.proofs.Common.{refl, sym, subst, ◌∙◌}
-use Rattle.ci_graph_layout.specs.Inclusion.{Given}
-use Rattle.ci_board.specs.Rows.{no_facts}
-use Rattle.ci_machine.specs.declared.change.IndexChange.{IndexChange}
-use Rattle.ci_machine.specs.declared.change.RowChange.{RowChange}
-use Rattle.ci_machine.specs.declared.records.BoardRow.{BoardRow}
-use Rattle.ci_machine.specs.declared.records.Variable.{Variable}
-use Rattle.ci_machine.specs.declared.reply.Reply.{Reply}
-use Rattle.ci_machine.specs.declared.request.NewPipeline.{NewPipeline}
-use Rattle.ci_machine.specs.Bodies.{status_of_jobs}
-use Rattle.ci_machine.specs.Indexes.{AreIndexes}
-use Rattle.ci_machine.specs.Kept.{Kept, put_rows, written}
-use Rattle.ci_machine.specs.Waiting.{claims_in}
+use Rattle.std.proofs.Common.{◌≡◌, ℕ, List, [], map, length, replicate, option_to_list, Some, Ok, refl, sym, subst, ◌∙◌}
+use Rattle.ci_graph_layout.specs.Prelude.{Given}
+use Rattle.ci_machine_steps.specs.Prelude.{no_facts, IndexChange, RowChange, BoardRow, Variable, Reply, NewPipeline, status_of_jobs, AreIndexes, Kept, put_rows, written, claims_in}
+use Rattle.ci_machine_steps.specs.Prelude.{Layout, IsLaidOut, creation, creation_changes, given_by, pipeline_created, ShowsCreated, Creates, Plan, IsSound, State, applied, rows_of}
+use Rattle.ci_machine_steps.specs.Prelude.{AreBoard}
 use Rattle.ci_machine_steps.specs.Pipelines as pipelines
-use Rattle.ci_machine_steps.specs.Pipelines.{Layout, IsLaidOut, creation, creation_changes, given_by, pipeline_created, ShowsCreated, Creates}
-use Rattle.ci_machine_steps.specs.Plans.{Plan}
-use Rattle.ci_machine_steps.specs.Sound.{IsSound}
-use Rattle.ci_machine.specs.State.{State, applied}
-use Rattle.ci_machine.specs.Statuses.{rows_of, AreBoard}
-use Rattle.ci_machine_statuses.specs.Changes.{IsMade}
-use Rattle.ci_machine_statuses.specs.HolderChanges.{opened}
+use Rattle.ci_server_lookups.specs.Prelude.{IsMade, opened, IsKept}
 use Rattle.ci_machine_pipelines.specs.declared.creation.Creation.{Creation}
 use Rattle.ci_machine_pipelines.specs.Creations.{origin, creation_view, LaysOut}
-use Rattle.ci_server_lookups.specs.Keeps.{IsKept}
 use Rattle.ci_server_events.specs.declared.planned.Planned.{Planned}
 use Rattle.ci_server_events.specs.Creating.{rows_beside, IsMadeBeside}
 use Rattle.ci_server_events.specs.Planning.{PlansFor, Settles}

@@ -1,14 +1,10 @@
 -- What is found in a list, and what an answer has.
-use Rattle.std.specs.Prelude.{◌≡◌, ℕ, Bool, true, ◌==◌, List, [], ◌∷◌, map, find, Option, Some, None, Result, Ok, Err, IfOk, IfErr, Contains, option_map}
-use Rattle.std.specs.Result.{IsErrAnd}
-use Rattle.std.proofs.Common.{refl, sym, ap, subst, ◌∙◌, arith}
+use Rattle.std.proofs.Common.{◌≡◌, ℕ, Bool, true, ◌==◌, List, [], ◌∷◌, map, find, Option, Some, None, Result, Ok, Err, IfOk, IfErr, Contains, option_map, IsErrAnd, refl, sym}
+use Rattle.std.proofs.Common.{subst, arith}
 use Rattle.std.proofs.lemmas.Bool.{cond_both}
 use Rattle.std.proofs.lemmas.List.Elements.{Contains-append_right, Contains-get_or}
-use Rattle.ci_machine.specs.declared.lease.Lease.{Lease}
-use Rattle.ci_machine.specs.declared.records.Attempt.{Attempt}
-use Rattle.ci_machine.specs.State.{State}
-use Rattle.ci_machine_steps.specs.Step.{attempt_at, lease_at, lease_of}
-use Rattle.ci_store.specs.declared.fault.StoreFault.{StoreFault}
+use Rattle.ci_machine_steps.specs.Prelude.{Lease, Attempt, State, attempt_at, lease_at, lease_of}
+use Rattle.ci_server_lookups.specs.Prelude.{StoreFault}
 
 pub found_is_there : {A : Type 0} (p : A → Bool) (x : A) (xs : List A) → find p xs ≡ Some x → Contains xs x × (p x ≡ true)
 found_is_there p x [] e = absurd (cc)

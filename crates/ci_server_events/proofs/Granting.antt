@@ -1,38 +1,12 @@
 -- A grant: the job's own row is put, and its group is held.
-use Rattle.std.specs.Prelude.{◌≡◌, ◌↔◌, if◌then◌else◌, ℕ, Bool, true, false, ◌&&◌, nat_lt, List, [], ◌∷◌, Some, Contains}
-use Rattle.std.proofs.Common.{refl, sym, ap, subst, ◌∙◌}
+use Rattle.std.proofs.Common.{◌≡◌, ◌↔◌, if◌then◌else◌, ℕ, Bool, true, false, ◌&&◌, nat_lt, List, [], ◌∷◌, Some, Contains, refl, sym, ap, subst, ◌∙◌}
 use Rattle.std.proofs.lemmas.Bool.{cond_both}
 use Rattle.std.proofs.lemmas.List.Elements.{All-contains, All-contains_itself, All-filter, filter_passes}
-use Rattle.ci_values.specs.declared.attempts.AttemptState.TheVariants.{Live}
-use Rattle.ci_values.specs.declared.limits.TheConstants.{MAX_NUMBER}
-use Rattle.ci_board.specs.declared.facts.Status.TheVariants as status
-use Rattle.ci_machine.specs.declared.change.Counter.TheVariants as counter
-use Rattle.ci_machine.specs.declared.change.IndexChange.{IndexChange}
-use Rattle.ci_machine.specs.declared.change.Record.TheVariants as row
-use Rattle.ci_machine.specs.declared.change.RowChange.{RowChange}
-use Rattle.ci_machine.specs.declared.records.Attempt.{Attempt}
-use Rattle.ci_machine.specs.declared.records.BoardRow.{BoardRow}
-use Rattle.ci_machine.specs.declared.records.Job.{Job}
-use Rattle.ci_machine.specs.declared.records.JobVariable.{JobVariable}
-use Rattle.ci_machine.specs.declared.records.QueuedJob.{QueuedJob}
-use Rattle.ci_machine.specs.declared.records.Runner.{Runner}
-use Rattle.ci_machine.specs.declared.reply.Code.TheVariants.{M15}
-use Rattle.ci_machine.specs.declared.request.Seed.{Seed}
-use Rattle.ci_machine.specs.Eligible.{may_run, resource_free, is_eligible}
-use Rattle.ci_machine_steps.specs.Grants.{grant, granted}
-use Rattle.ci_machine.specs.Holders.{holds_group}
-use Rattle.ci_machine.specs.Indexes.{AreIndexes}
-use Rattle.ci_machine.specs.Kept.{Kept, put_rows, written}
-use Rattle.ci_machine.specs.Waiting.{groups_in}
-use Rattle.ci_machine_steps.specs.Plans.{Plan, refused, numbered}
-use Rattle.ci_machine_steps.specs.Sound.{IsSound}
-use Rattle.ci_machine.specs.State.{State, applied}
-use Rattle.ci_machine.specs.Statuses.{AreBoard}
-use Rattle.ci_machine_steps.specs.Step.{offer, queue, queued, is_pending, pending_jobs}
-use Rattle.ci_machine_statuses.specs.Changes.{started_row}
+use Rattle.ci_machine_steps.specs.Prelude.{Live, MAX_NUMBER, Status, Counter, IndexChange, Record, RowChange, Attempt, BoardRow, Job, JobVariable, QueuedJob, Runner, M15, Seed}
+use Rattle.ci_machine_steps.specs.Prelude.{may_run, resource_free, is_eligible, grant, granted, holds_group, AreIndexes, Kept, put_rows, written, groups_in, Plan, refused}
+use Rattle.ci_machine_steps.specs.Prelude.{numbered, IsSound, State, applied, AreBoard, offer, queue, queued, is_pending, pending_jobs}
+use Rattle.ci_server_lookups.specs.Prelude.{started_row, IsKept, IsOffered}
 use Rattle.ci_server_lookups.specs.declared.search.Offer.{Offer}
-use Rattle.ci_server_lookups.specs.Keeps.{IsKept}
-use Rattle.ci_server_lookups.specs.Search.{IsOffered}
 use Rattle.ci_server_events.specs.declared.planned.Beside.{Beside}
 use Rattle.ci_server_events.specs.Planning.{Settles}
 use Rattle.ci_server_events.proofs.Found.{found_is_there, found_in_map}
@@ -41,13 +15,13 @@ abbrev pub GrantSettles : Type 0
 GrantSettles =
     (s : State) (board : List BoardRow) (job : Job) (attempt : Attempt) → IsSound s → AreBoard s board → Contains s.jobs job → is_pending board job ≡ true
     → attempt.id ≡ s.next.attempt → attempt.job ≡ job.id → attempt.state ≡ Live
-    → AreBoard (applied (numbered (row.Attempt attempt) counter.Attempt s.next.attempt) s) (put_rows (started_row board job.id ∷ []) board)
+    → AreBoard (applied (numbered (Record.Attempt attempt) Counter.Attempt s.next.attempt) s) (put_rows (started_row board job.id ∷ []) board)
 
 abbrev pub GrantIsIndexed : Type 0
 GrantIsIndexed =
     (k : Kept) (job : Job) (attempt : Attempt) → IsSound k.state → AreBoard k.state k.board → AreIndexes k → Contains k.state.jobs job → is_pending k.board job ≡ true
     → resource_free (groups_in k.state k.board) (queued k.state job) ≡ true → attempt.id ≡ k.state.next.attempt → attempt.job ≡ job.id → attempt.state ≡ Live
-    → AreIndexes (written (numbered (row.Attempt attempt) counter.Attempt k.state.next.attempt) (started_row k.board job.id ∷ []) (holds_group attempt.id (queued k.state job)) k)
+    → AreIndexes (written (numbered (Record.Attempt attempt) Counter.Attempt k.state.next.attempt) (started_row k.board job.id ∷ []) (holds_group attempt.id (queued k.state job)) k)
 
 -- The job that a runner is offered is one of the state's, is pending, and its group is free.
 record IsPendingOffer (s : State) (board : List BoardRow) (q : QueuedJob) : Type 0 where
@@ -77,7 +51,7 @@ offered_is_pending s board runner q e =
 
 -- what is put and held beside a grant: nothing, where it is refused
 abbrev its_row : Offer → BoardRow
-its_row found = record found.row { row = record found.row.row { status = status.Running } }
+its_row found = record found.row { row = record found.row.row { status = Status.Running } }
 
 abbrev pub rows_granted : Bool → Offer → List BoardRow
 rows_granted refusing found = if refusing then [] else its_row found ∷ []

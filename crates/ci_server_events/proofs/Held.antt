@@ -1,26 +1,16 @@
 -- Who holds the resource groups of a pipeline's jobs after an act: those that were looked up, but for what it frees.
-use Rattle.std.specs.Prelude.{◌≡◌, ℕ, Bool, true, false, ◌&&◌, ◌||◌, not, ◌==◌, List, [], ◌∷◌, ◌++◌, map, filter, Option, Some, None, option_to_list}
+use Rattle.std.proofs.Common.{◌≡◌, ℕ, Bool, true, false, ◌&&◌, ◌||◌, not, ◌==◌, List, [], ◌∷◌, ◌++◌, map, filter, Option, Some, None, option_to_list, refl, sym, ap, ◌∙◌, ⊎_elim}
+use Rattle.std.proofs.Common.{eqb-true}
 use Rattle.std.specs.List.{list_any, AllByRecursion}
 use Rattle.std.specs.Str.{bytes_eq}
-use Rattle.std.proofs.Common.{refl, sym, ap, ◌∙◌, ⊎_elim, eqb-true}
 use Rattle.std.proofs.lemmas.Bool.{cond_both, cases_Bool, and_parts}
 use Rattle.std.proofs.lemmas.Slice.Eq.{bytes_eq-Decides}
-use Rattle.ci_board.specs.declared.facts.Status.{Status}
-use Rattle.ci_machine.specs.declared.records.Attempt.{Attempt}
-use Rattle.ci_machine.specs.declared.records.Holder.{Holder}
-use Rattle.ci_machine.specs.declared.records.Job.{Job}
-use Rattle.ci_machine.specs.declared.records.Pipeline.{Pipeline}
-use Rattle.ci_machine.specs.declared.change.IndexChange.{IndexChange}
-use Rattle.ci_machine.specs.declared.change.IndexChange.TheVariants.{Hold, Free, Open, Close}
-use Rattle.ci_machine.specs.State.{State}
-use Rattle.ci_machine.specs.Kept.{Kept, indexed, indexed_all}
-use Rattle.ci_machine.specs.Eligible.{holds}
+use Rattle.ci_machine_steps.specs.Prelude.{Status, Attempt, Holder, Job, Pipeline, IndexChange, Hold, Free, Close, State, Kept, indexed, indexed_all, holds, AreHolders}
+use Rattle.ci_machine_steps.specs.Prelude.{is_unfinished}
+use Rattle.ci_machine.specs.declared.change.IndexChange.TheVariants.{Open}
 use Rattle.ci_machine.specs.Holders as holders
-use Rattle.ci_machine.specs.Holders.{AreHolders}
-use Rattle.ci_machine.specs.Redundant.{is_unfinished}
 use Rattle.ci_machine.proofs.Keyed.{has_from_all, All-from_has}
-use Rattle.ci_machine_statuses.specs.HolderChanges.{turned_by, of_pipeline}
-use Rattle.ci_server_lookups.specs.Held.{is_unheld, HoldAlike, frees, still_held}
+use Rattle.ci_server_lookups.specs.Prelude.{turned_by, of_pipeline, is_unheld, HoldAlike, frees, still_held}
 use Rattle.ci_server_lookups.proofs.Holds.{kept_alike}
 
 -- ---- tests

@@ -1,59 +1,19 @@
 -- Plans that leave all statuses, and so all that stands beside the records.
-use Rattle.std.specs.Prelude.{◌≡◌, ℕ, Bool, not, nat_lt, List, [], length, Option, Some, None, Result, Ok, Err, Contains}
+use Rattle.std.proofs.Common.{◌≡◌, ℕ, Bool, not, nat_lt, List, [], length, Option, Some, None, Result, Ok, Err, Contains, refl, sym, subst}
 use Rattle.std.specs.List.{AllByRecursion}
 use Rattle.std.specs.Str.{bytes_eq}
-use Rattle.std.proofs.Common.{refl, sym, subst}
 use Rattle.std.proofs.lemmas.Bool.{cond_both}
-use Rattle.ci_values.specs.Names.{is_name}
-use Rattle.ci_values.specs.declared.limits.TheConstants.{MAX_NUMBER}
-use Rattle.ci_values.specs.VariableName.{is_variable_name}
-use Rattle.ci_config.specs.Config.{Config}
-use Rattle.ci_config.specs.declared.limits.TheConstants.{MAX_TAGS, MAX_VARIABLES}
-use Rattle.ci_machine.specs.declared.change.IndexChange.{IndexChange}
-use Rattle.ci_machine.specs.declared.change.RowChange.{RowChange}
-use Rattle.ci_machine.specs.declared.lease.Lease.{Lease}
-use Rattle.ci_machine.specs.declared.lease.PieceFault.{PieceFault}
-use Rattle.ci_machine.specs.declared.records.Attempt.{Attempt}
-use Rattle.ci_machine.specs.declared.records.BoardRow.{BoardRow}
-use Rattle.ci_machine.specs.declared.records.GroupOrder.{GroupOrder}
-use Rattle.ci_machine.specs.declared.records.Project.{Project}
-use Rattle.ci_machine.specs.declared.records.Runner.{Runner}
-use Rattle.ci_machine.specs.declared.records.Variable.{Variable}
-use Rattle.ci_machine.specs.declared.reply.Body.{Body}
-use Rattle.ci_machine.specs.declared.reply.Code.{Code}
-use Rattle.ci_machine.specs.declared.reply.Code.TheVariants.{M2, M5, M15}
-use Rattle.ci_machine.specs.declared.reply.Detail.{Detail}
-use Rattle.ci_machine.specs.declared.reply.Detail.TheVariants as detail
-use Rattle.ci_machine.specs.declared.reply.FaultCode.TheVariants.{K}
-use Rattle.ci_machine.specs.declared.reply.Reply.{Reply}
-use Rattle.ci_machine.specs.declared.request.NewMode.{NewMode}
-use Rattle.ci_machine.specs.declared.request.NewRunner.{NewRunner}
-use Rattle.ci_machine.specs.declared.request.NewVariable.{NewVariable}
-use Rattle.ci_machine.specs.declared.request.Request.{Request}
-use Rattle.ci_machine.specs.declared.request.Seed.{Seed}
-use Rattle.ci_machine.specs.declared.request.TracePart.{TracePart}
-use Rattle.ci_machine_steps.specs.Files.{SetsFile, set_file}
-use Rattle.ci_machine.specs.Indexes.{AreIndexes}
-use Rattle.ci_machine.specs.Kept.{Kept, cleared, put_rows, written}
-use Rattle.ci_machine.specs.Leases.{accepted}
-use Rattle.ci_machine_steps.specs.Modes.{mode_change, set_mode}
-use Rattle.ci_machine_steps.specs.Plans.{Plan, refused, faulted}
-use Rattle.ci_machine_steps.specs.Projects.{add_project, made_project}
+use Rattle.ci_machine_steps.specs.Prelude.{is_name, MAX_NUMBER, is_variable_name, IndexChange, RowChange, Lease, PieceFault, Attempt, BoardRow, GroupOrder, Project, Runner}
+use Rattle.ci_machine_steps.specs.Prelude.{Variable, Body, Code, M2, M5, M15, Detail, K, Reply, NewMode, NewRunner, NewVariable, Request, Seed, TracePart, SetsFile, set_file}
+use Rattle.ci_machine_steps.specs.Prelude.{AreIndexes, Kept, cleared, put_rows, written, accepted, mode_change, set_mode, Plan, refused, faulted, add_project, made_project}
+use Rattle.ci_machine_steps.specs.Prelude.{are_names, lacks_project, add_runner, made_runner, pause_runner, IsSound, State, applied, AreBoard, Does, append_trace, appended}
+use Rattle.ci_machine_steps.specs.Prelude.{set_variable, variable_set, delete_variable, count_with}
+use Rattle.ci_graph_layout.specs.Prelude.{Config, MAX_TAGS, MAX_VARIABLES}
 use Rattle.ci_machine_steps.specs.Reads.{told}
-use Rattle.ci_machine_steps.specs.Runners.{are_names, lacks_project, add_runner, made_runner, pause_runner}
-use Rattle.ci_machine_steps.specs.Sound.{IsSound}
-use Rattle.ci_machine.specs.State.{State, applied}
-use Rattle.ci_machine.specs.Statuses.{AreBoard}
-use Rattle.ci_machine_steps.specs.Step.{Does}
-use Rattle.ci_machine_steps.specs.Traces.{append_trace, appended}
-use Rattle.ci_machine_steps.specs.Variables.{set_variable, variable_set, delete_variable, count_with}
 use Rattle.ci_machine_plans.specs.Refusals.{unmade}
 use Rattle.ci_machine_plans.specs.declared.replies.Refusal.{Refusal}
-use Rattle.ci_machine_plans.specs.declared.replies.Refusal.TheVariants as refusal
-use Rattle.ci_machine_statuses.specs.Changes.{LeavesStatuses}
-use Rattle.ci_store.specs.declared.fault.StoreFault.{StoreFault}
-use Rattle.ci_store.specs.Store.{LoadsBy}
-use Rattle.ci_server_lookups.specs.Keeps.{IsKept, HoldsKept}
+use Rattle.ci_server_lookups.specs.Prelude.{LeavesStatuses, StoreFault, IsKept, HoldsKept}
+use Rattle.ci_store.specs.Prelude.{LoadsBy}
 use Rattle.ci_server_lookups.proofs.Loading.{of_kept}
 use Rattle.ci_server_events.specs.declared.planned.Beside.{Beside}
 use Rattle.ci_server_events.specs.declared.planned.Planned.{Planned}
@@ -66,12 +26,12 @@ Leaves s plan = AllByRecursion (LeavesStatuses s) plan.1
 
 pub project_leaves : (s : State) (n : ℕ) (name : List ℕ) (seed : Seed) → Leaves s (add_project n name seed)
 project_leaves s n name seed =
-    cond_both (not (is_name name)) (faulted (detail.Code (K 16))) _ (Leaves s) (λ _. tt) (λ _. cond_both (nat_lt MAX_NUMBER n) (refused M15) (made_project n name seed) (Leaves s) (λ _. tt) (λ _. (tt, (tt, tt))))
+    cond_both (not (is_name name)) (faulted (Detail.Code (K 16))) _ (Leaves s) (λ _. tt) (λ _. cond_both (nat_lt MAX_NUMBER n) (refused M15) (made_project n name seed) (Leaves s) (λ _. tt) (λ _. (tt, (tt, tt))))
 
 pub runner_leaves : (s : State) (n : ℕ) (project : Option Project) (new : NewRunner) (seed : Seed) → Leaves s (add_runner n project new seed)
 runner_leaves s n project new seed =
-    cond_both (nat_lt MAX_TAGS (length new.tags)) (faulted (detail.Code (K 11))) _ (Leaves s) (λ _. tt)
-    (λ _. cond_both (not (are_names new)) (faulted (detail.Code (K 16))) _ (Leaves s) (λ _. tt)
+    cond_both (nat_lt MAX_TAGS (length new.tags)) (faulted (Detail.Code (K 11))) _ (Leaves s) (λ _. tt)
+    (λ _. cond_both (not (are_names new)) (faulted (Detail.Code (K 16))) _ (Leaves s) (λ _. tt)
     (λ _. cond_both (lacks_project new.project project) (refused M2) _ (Leaves s) (λ _. tt)
     (λ _. cond_both (nat_lt MAX_NUMBER n) (refused M15) (made_runner n new seed) (Leaves s) (λ _. tt) (λ _. (tt, (tt, tt))))))
 
@@ -105,8 +65,8 @@ file_leaves s (Ok project) text plan is = subst (Leaves s) (sym is.2) (by_readin
 pub variable_leaves : (s : State) (r : Result Project Code) (vs : List Variable) (new : NewVariable) → Leaves s (set_variable r vs new)
 variable_leaves s (Err code) vs new = tt
 variable_leaves s (Ok project) vs new =
-    cond_both (nat_lt MAX_VARIABLES (count_with new.key vs)) (faulted (detail.Code (K 11))) _ (Leaves s) (λ _. tt)
-    (λ _. cond_both (not (is_variable_name new.key)) (faulted (detail.Code (K 12))) (variable_set project new) (Leaves s) (λ _. tt) (λ _. (tt, tt)))
+    cond_both (nat_lt MAX_VARIABLES (count_with new.key vs)) (faulted (Detail.Code (K 11))) _ (Leaves s) (λ _. tt)
+    (λ _. cond_both (not (is_variable_name new.key)) (faulted (Detail.Code (K 12))) (variable_set project new) (Leaves s) (λ _. tt) (λ _. (tt, tt)))
 
 pub deletion_leaves : (s : State) (r : Result Project Code) (found : Option Variable) → Leaves s (delete_variable r found)
 deletion_leaves s (Err code) found = tt
@@ -141,8 +101,8 @@ alone_settles rows_stay indexes_stay k is changes beside no_rows no_indexes leav
 }
 
 pub refusals_change_nothing : (r : Refusal) → (unmade r).1 ≡ []
-refusals_change_nothing (refusal.Code code) = refl
-refusals_change_nothing (refusal.Fault code) = refl
+refusals_change_nothing (Refusal.Code code) = refl
+refusals_change_nothing (Refusal.Fault code) = refl
 
 -- whatever is read
 pub reads_change_nothing : (r : Result Body Code) → (told r).1 ≡ []

@@ -1,8 +1,7 @@
 -- The last of a list, and lists that are filtered before they are searched.
-use Rattle.std.specs.Prelude.{ℕ, ◌+◌, ◌==◌, Bool, true, false, cond, not, length, filter, find, Option, Some, None, MatchOption, option_to_list}
+use Rattle.std.proofs.Common.{ℕ, ◌+◌, ◌==◌, Bool, true, false, cond, not, length, filter, find, Option, Some, None, MatchOption, option_to_list, nat_cmp, is_eq, ◌≡◌, ◌++◌, List}
+use Rattle.std.proofs.Common.{[], ◌∷◌, refl, ap, sym, arith, ◌∙◌, inl, inr, ⊎_elim, eqb-true, eq-eqb}
 use Rattle.std.specs.List.{last_or}
-use Rattle.std.specs.Ordering.{nat_cmp, is_eq}
-use Rattle.std.proofs.Common.{◌≡◌, ◌++◌, List, [], ◌∷◌, refl, ap, sym, arith, ◌∙◌, inl, inr, ⊎_elim, eqb-true, eq-eqb}
 use Rattle.std.proofs.lemmas.Bool.{cond_both, cond-false, both_ways, cases_Bool}
 use Rattle.ci_machine.proofs.Keyed.{Has, same, equal}
 

@@ -1,21 +1,10 @@
 -- A pipeline goes: what changes beside its records is right.
-use Rattle.std.specs.Prelude.{◌≡◌, ℕ, not, false, nat_lt, List, [], Some, Contains}
-use Rattle.std.proofs.Common.{sym, ap, subst}
+use Rattle.std.proofs.Common.{◌≡◌, ℕ, not, false, nat_lt, List, [], Some, Contains, sym, ap, subst}
 use Rattle.std.proofs.lemmas.Bool.{and_parts}
-use Rattle.ci_machine.specs.declared.change.IndexChange.{IndexChange}
-use Rattle.ci_machine.specs.declared.change.RowChange.{RowChange}
-use Rattle.ci_machine.specs.declared.records.BoardRow.{BoardRow}
-use Rattle.ci_machine.specs.declared.records.Pipeline.{Pipeline}
-use Rattle.ci_machine.specs.declared.reply.Reply.{Reply}
-use Rattle.ci_machine.specs.Indexes.{is_open_in, AreIndexes}
-use Rattle.ci_machine.specs.Kept.{Kept, cleared, put_rows, written}
-use Rattle.ci_machine.specs.State.{State, without_all, applied}
-use Rattle.ci_machine.specs.Statuses.{jobs_of, numbers_of, AreBoard}
+use Rattle.ci_machine_steps.specs.Prelude.{IndexChange, RowChange, BoardRow, Pipeline, Reply, is_open_in, AreIndexes, Kept, cleared, put_rows, written, State, without_all, applied}
+use Rattle.ci_machine_steps.specs.Prelude.{jobs_of, numbers_of, AreBoard, Plan, is_prunable, prunable_in, pipeline_goes, prune, IsSound}
 use Rattle.ci_machine.proofs.Keyed.{has_find, contains_from_has, not_true}
-use Rattle.ci_machine_steps.specs.Plans.{Plan}
-use Rattle.ci_machine_steps.specs.Prunes.{is_prunable, prunable_in, pipeline_goes, prune}
-use Rattle.ci_machine_steps.specs.Sound.{IsSound}
-use Rattle.ci_server_lookups.specs.Keeps.{IsKept}
+use Rattle.ci_server_lookups.specs.Prelude.{IsKept}
 use Rattle.ci_server_events.specs.declared.planned.Planned.{Planned}
 use Rattle.ci_server_events.specs.Planning.{PlansFor}
 

@@ -1,30 +1,11 @@
 -- The jobs of a pipeline, as what was looked up tells them.
-use Rattle.std.specs.Prelude.{◌≡◌, ℕ, Bool, true, List, [], ◌∷◌, ◌++◌, length, map, filter, ◌==◌, Result, Ok, Err, IfErr}
-use Rattle.std.specs.Result.{IsErrAnd}
-use Rattle.std.proofs.Common.{refl, sym, ap, subst, ◌∙◌, eqb-true}
-use Rattle.ci_board.specs.declared.facts.Facts.{Facts}
-use Rattle.ci_board.specs.declared.facts.Row.{Row}
-use Rattle.ci_board.specs.declared.facts.Status.{Status}
-use Rattle.ci_board.specs.declared.facts.Status.TheVariants as status
-use Rattle.ci_machine.specs.declared.records.Attempt.{Attempt}
-use Rattle.ci_machine.specs.declared.records.Claim.{Claim}
-use Rattle.ci_machine.specs.declared.records.Job.{Job}
-use Rattle.ci_machine.specs.declared.records.Pipeline.{Pipeline}
-use Rattle.ci_machine.specs.declared.records.PipelineWithStatus.{PipelineWithStatus}
-use Rattle.ci_machine.specs.Bodies.{status_of_jobs}
-use Rattle.ci_machine.specs.Eligible.{is_free}
-use Rattle.ci_machine.specs.Groups.{held_claim}
-use Rattle.ci_machine.specs.Indexes.{with_status}
-use Rattle.ci_machine.specs.Kept.{Kept}
-use Rattle.ci_machine.specs.Ranges.{is_within}
-use Rattle.ci_machine.specs.ReportRows.{pending_status, shown_status, job_row, job_rows}
-use Rattle.ci_machine.specs.Waiting.{groups_in, claims_in}
-use Rattle.ci_machine.specs.Statuses.{jobs_of, attempts_of, facts_of, rows_of, row_for, status_for}
+use Rattle.std.proofs.Common.{◌≡◌, ℕ, Bool, true, List, [], ◌∷◌, ◌++◌, length, map, filter, ◌==◌, Result, Ok, Err, IfErr, IsErrAnd, refl, sym, ap, subst, ◌∙◌, eqb-true}
+use Rattle.ci_machine_steps.specs.Prelude.{Facts, Row, Status, Attempt, Claim, Job, Pipeline, PipelineWithStatus, status_of_jobs, is_free, held_claim, with_status, Kept, is_within}
+use Rattle.ci_machine_steps.specs.Prelude.{pending_status, shown_status, job_row, job_rows, groups_in, claims_in, jobs_of, attempts_of, facts_of, rows_of, row_for, status_for}
 use Rattle.ci_machine.proofs.Keyed.{Has, has_find, has_from_all}
 use Rattle.ci_machine.proofs.Filters.{filter_implied}
 use Rattle.ci_machine_statuses.proofs.Puts.{map_same}
-use Rattle.ci_server_lookups.specs.Held.{FreeAlike}
-use Rattle.ci_server_lookups.specs.Records.{IsWhole}
+use Rattle.ci_server_lookups.specs.Prelude.{FreeAlike, IsWhole}
 use Rattle.ci_server_lookups.specs.declared.records.Whole.{Whole}
 use Rattle.ci_server_lookups.proofs.Claiming.{with_alike}
 use Rattle.ci_server_events.specs.Told.{job_told}
@@ -35,14 +16,14 @@ map_map g f (x ∷ xs) = ap (λ l. g (f x) ∷ l) (map_map g f xs)
 
 -- by claims on the same of its groups a job is told alike
 shown_alike : (cs ds : List Claim) (project : ℕ) (j : Job) (s : Status) → is_free cs project j.options.resource_group ≡ is_free ds project j.options.resource_group → shown_status cs project j s ≡ shown_status ds project j s
-shown_alike cs ds project j status.Created same = refl
-shown_alike cs ds project j status.Pending same = ap pending_status same
-shown_alike cs ds project j status.Running same = refl
-shown_alike cs ds project j status.Success same = refl
-shown_alike cs ds project j status.Failed same = refl
-shown_alike cs ds project j status.Canceled same = refl
-shown_alike cs ds project j status.Skipped same = refl
-shown_alike cs ds project j status.Manual same = refl
+shown_alike cs ds project j Status.Created same = refl
+shown_alike cs ds project j Status.Pending same = ap pending_status same
+shown_alike cs ds project j Status.Running same = refl
+shown_alike cs ds project j Status.Success same = refl
+shown_alike cs ds project j Status.Failed same = refl
+shown_alike cs ds project j Status.Canceled same = refl
+shown_alike cs ds project j Status.Skipped same = refl
+shown_alike cs ds project j Status.Manual same = refl
 
 module _ (k : Kept) (id : ℕ) (w : Whole) (whole : IsWhole k id w) where
   number : w.pipeline.id ≡ id

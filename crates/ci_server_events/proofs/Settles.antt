@@ -1,48 +1,17 @@
 -- Which attempts the plans of events move, and how what changes beside them settles them.
-use Rattle.std.specs.Prelude.{◌≡◌, ℕ, Bool, true, false, max, ◌==◌, List, [], ◌∷◌, find, Some, None, Result, Ok, Err, Contains}
+use Rattle.std.proofs.Common.{◌≡◌, ℕ, Bool, true, false, max, ◌==◌, List, [], ◌∷◌, find, Some, None, Result, Ok, Err, Contains, refl, sym, ap, subst, ◌∙◌, inl, inr, ⊎_elim}
+use Rattle.std.proofs.Common.{eqb-true}
 use Rattle.std.specs.List.{AllByRecursion}
 use Rattle.std.specs.Str.{bytes_eq}
-use Rattle.std.proofs.Common.{refl, sym, ap, subst, ◌∙◌, inl, inr, ⊎_elim, eqb-true}
 use Rattle.std.proofs.lemmas.Bool.{cond_both}
 use Rattle.std.proofs.lemmas.List.Elements.{All-contains, All-contains_itself, All-filter, filter_passes}
-use Rattle.ci_values.specs.declared.attempts.AttemptState.{AttemptState}
-use Rattle.ci_values.specs.declared.attempts.AttemptState.TheVariants.{Live, Succeeded, Failed, Cancelled}
-use Rattle.ci_values.specs.Attempts.{is_live_state}
-use Rattle.ci_board.specs.declared.facts.Status.{Status}
-use Rattle.ci_machine.specs.declared.records.Attempt.{Attempt}
-use Rattle.ci_machine.specs.declared.records.Job.{Job}
-use Rattle.ci_machine.specs.declared.records.Need.{Need}
-use Rattle.ci_machine.specs.declared.records.Pipeline.{Pipeline}
-use Rattle.ci_machine.specs.declared.records.BoardRow.{BoardRow}
-use Rattle.ci_machine.specs.declared.lease.Lease.{Lease}
-use Rattle.ci_machine.specs.declared.lease.LeaseFault.{LeaseFault}
-use Rattle.ci_machine.specs.declared.change.IndexChange.{IndexChange}
-use Rattle.ci_machine.specs.declared.change.Record.TheVariants as row
-use Rattle.ci_machine.specs.declared.change.RowChange.{RowChange}
-use Rattle.ci_machine.specs.declared.change.RowChange.TheVariants.{Put}
-use Rattle.ci_machine.specs.declared.request.Report.{Report}
-use Rattle.ci_machine.specs.declared.request.Report.TheVariants as report
-use Rattle.ci_machine.specs.declared.request.JobUpdate.{JobUpdate}
-use Rattle.ci_machine.specs.declared.reply.Code.TheVariants.{M5}
-use Rattle.ci_machine.specs.Bodies.{status_of_jobs}
-use Rattle.ci_machine.specs.Indexes.{AreIndexes}
-use Rattle.ci_machine.specs.Kept.{Kept, put_rows, written}
-use Rattle.ci_machine.specs.Leases.{is_live, is_over, while_leased, renewed, first_due, cause_of}
-use Rattle.ci_machine_steps.specs.Plans.{Plan, refused}
-use Rattle.ci_machine_steps.specs.Reports.{update_job, reported, heard, ended}
-use Rattle.ci_machine_steps.specs.Sound.{IsSound}
-use Rattle.ci_machine.specs.State.{State, applied}
-use Rattle.ci_machine.specs.Statuses.{AreBoard}
-use Rattle.ci_machine_steps.specs.Step.{lease_of, leases, live_attempts, pipeline_at, with_status}
-use Rattle.ci_machine_steps.specs.Sweeps.{ends}
-use Rattle.ci_machine_statuses.specs.declared.end.Settled.{Settled}
-use Rattle.ci_machine_statuses.specs.Changes.{HasLive, LeavesStatuses}
-use Rattle.ci_machine_statuses.specs.Ends.{ended_state, IsSettled}
-use Rattle.ci_machine_statuses.specs.Lookups.{AreRecords}
-use Rattle.ci_machine_statuses.specs.HolderChanges.{of_pipeline}
+use Rattle.ci_machine_steps.specs.Prelude.{AttemptState, Live, Succeeded, Cancelled, is_live_state, Status, Attempt, Job, Need, Pipeline, BoardRow, Lease, LeaseFault, IndexChange}
+use Rattle.ci_machine_steps.specs.Prelude.{Record, RowChange, Put, Report, JobUpdate, M5, status_of_jobs, AreIndexes, Kept, put_rows, written, is_live, is_over, while_leased}
+use Rattle.ci_machine_steps.specs.Prelude.{renewed, first_due, cause_of, Plan, refused, update_job, reported, heard, ended, IsSound, State, applied, AreBoard, lease_of, leases}
+use Rattle.ci_machine_steps.specs.Prelude.{live_attempts, pipeline_at, with_status, ends}
+use Rattle.ci_machine.specs.Prelude.{Failed}
+use Rattle.ci_server_lookups.specs.Prelude.{Settled, HasLive, LeavesStatuses, ended_state, IsSettled, AreRecords, of_pipeline, AreOf, IsKept}
 use Rattle.ci_server_lookups.specs.declared.records.Records.{Records}
-use Rattle.ci_server_lookups.specs.Records.{AreOf}
-use Rattle.ci_server_lookups.specs.Keeps.{IsKept}
 use Rattle.ci_server_events.specs.declared.planned.Beside.{Beside}
 use Rattle.ci_server_events.specs.Planning.{Settles, MovesOne, attempt_ended}
 use Rattle.ci_server_events.proofs.Found.{found_is_there, found_in_map}
@@ -91,14 +60,14 @@ heard_moves s a limit now (Ok seen) there e =
 ended_moves : (s : State) (a : Attempt) (r : Result AttemptState LeaseFault) → Contains s.attempts a → MovesOne s (ended a r).1
 ended_moves s a (Err fault) there = inl refl
 ended_moves s a (Ok state) there =
-    cond_both (is_live a) (Put (row.Attempt (record a { state = state })) ∷ []) [] (λ (cs : List RowChange). MovesOne s cs)
+    cond_both (is_live a) (Put (Record.Attempt (record a { state = state })) ∷ []) [] (λ (cs : List RowChange). MovesOne s cs)
     (λ live. inr (record a { state = state }, (a, there, refl, refl, live), refl))
     (λ _. inl refl)
 
 reported_moves : (s : State) (l : Lease) (said : Report) (now : ℕ) → Contains s.attempts l.attempt → MovesOne s (reported l said now).1
-reported_moves s l report.Running now there = heard_moves s l.attempt l.limit now _ there refl
-reported_moves s l (report.Success exit) now there = ended_moves s l.attempt _ there
-reported_moves s l (report.Failed cause exit) now there = ended_moves s l.attempt _ there
+reported_moves s l Report.Running now there = heard_moves s l.attempt l.limit now _ there refl
+reported_moves s l (Report.Success exit) now there = ended_moves s l.attempt _ there
+reported_moves s l (Report.Failed cause exit) now there = ended_moves s l.attempt _ there
 
 pub report_moves : (s : State) (l : Lease) (update : JobUpdate) (now : ℕ) → Contains s.attempts l.attempt → MovesOne s (update_job (Some l) update now).1
 report_moves s l update now there =
@@ -127,7 +96,7 @@ still_moves s changes moves none =
     ⊎_elim
     (λ e. subst (AllByRecursion (LeavesStatuses s)) (sym e) tt)
     (λ m. subst (AllByRecursion (LeavesStatuses s)) (sym m.2)
-    (cond_both (is_live m.0) None (Some m.0) (λ o. o ≡ None → AllByRecursion (LeavesStatuses s) (Put (row.Attempt m.0) ∷ []))
+    (cond_both (is_live m.0) None (Some m.0) (λ o. o ≡ None → AllByRecursion (LeavesStatuses s) (Put (Record.Attempt m.0) ∷ []))
     (λ live _. ((m.1.0, m.1.1, m.1.2, m.1.3, both_live m.1.0.state m.0.state m.1.4 live), tt))
     (λ _ e. absurd (cc))
     (subst (λ (cs : List RowChange). attempt_ended cs ≡ None) m.2 none)))
@@ -144,14 +113,14 @@ still_moves s changes moves none =
 
 -- where they end one, they put it alone
 pub end_moves : (s : State) (changes : List RowChange) (after : Attempt) → MovesOne s changes → attempt_ended changes ≡ Some after
-    → HasLive s after × (is_live after ≡ false) × (changes ≡ Put (row.Attempt after) ∷ [])
+    → HasLive s after × (is_live after ≡ false) × (changes ≡ Put (Record.Attempt after) ∷ [])
 end_moves s changes after moves some =
     ⊎_elim
     (λ e. absurd (let bad : attempt_ended [] ≡ Some after = subst (λ (cs : List RowChange). attempt_ended cs ≡ Some after) e some in cc))
     (λ m.
     let same : (m.0 ≡ after) × (is_live m.0 ≡ false) = cond_both (is_live m.0) None (Some m.0) (λ o. o ≡ Some after → (m.0 ≡ after) × (is_live m.0 ≡ false)) (λ _ e. absurd (cc)) (λ over e. (cc, over))
     (subst (λ (cs : List RowChange). attempt_ended cs ≡ Some after) m.2 some) in
-    (subst (HasLive s) same.0 m.1, subst (λ (a : Attempt). is_live a ≡ false) same.0 same.1, m.2 ∙ ap (λ (a : Attempt). Put (row.Attempt a) ∷ []) same.0))
+    (subst (HasLive s) same.0 m.1, subst (λ (a : Attempt). is_live a ≡ false) same.0 same.1, m.2 ∙ ap (λ (a : Attempt). Put (Record.Attempt a) ∷ []) same.0))
     moves
 
 abbrev pub EndIsIndexed : Type 0
@@ -159,17 +128,17 @@ EndIsIndexed = (k : Kept) (p : Pipeline) (job : Job) (jobs : List Job) (needs : 
     → IsSound k.state → AreBoard k.state k.board → AreIndexes k → Contains k.state.pipelines p → AreRecords k.state k.board p.id jobs needs attempts rows
     → Contains jobs job → ended.job ≡ job.id → HasLive k.state ended → is_live ended ≡ false → IsSettled k.state (ended_state k.state ended) k.board p.id settled
     → before ≡ (with_status k.state k.board p).status → after ≡ status_of_jobs jobs settled.facts.items settled.rows.items
-    → AreIndexes (written (Put (row.Attempt ended) ∷ []) settled.changed.items (of_pipeline p (job ∷ []) attempts before after) k)
+    → AreIndexes (written (Put (Record.Attempt ended) ∷ []) settled.changed.items (of_pipeline p (job ∷ []) attempts before after) k)
 
 -- what was worked out of the records of its pipeline settles the end of an attempt
 pub end_settles : EndIsIndexed → (k : Kept) → IsKept k → (p : Pipeline) (r : Records) (x : Attempt) (job : Job) (v : Settled) (before after : Status) (indexes : List IndexChange) (beside : Beside)
     → pipeline_at k.state p.id ≡ Some p → AreOf k p.id r → HasLive k.state x → is_live x ≡ false → find (λ j. j.id == x.job) r.jobs.items ≡ Some job → IsSettled k.state (ended_state k.state x) k.board p.id v
     → before ≡ (with_status k.state k.board p).status → after ≡ status_of_jobs r.jobs.items v.facts.items v.rows.items
     → indexes ≡ of_pipeline p (job ∷ []) r.attempts.items before after → beside.rows.items ≡ v.changed.items → beside.indexes.items ≡ indexes
-    → Settles k (Put (row.Attempt x) ∷ []) beside
+    → Settles k (Put (Record.Attempt x) ∷ []) beside
 end_settles law k kept p r x job v before after indexes beside there records live over found settled was is are same_rows same_indexes =
     let its = found_is_there (λ (j : Job). j.id == x.job) job r.jobs.items found in
     let at = found_is_there (λ (q : Pipeline). q.id == p.id) p k.state.pipelines there in
-    settles_by k (Put (row.Attempt x) ∷ []) (Put (row.Attempt x) ∷ []) beside v.changed.items (of_pipeline p (job ∷ []) r.attempts.items before after) refl same_rows (same_indexes ∙ are) settled.board
+    settles_by k (Put (Record.Attempt x) ∷ []) (Put (Record.Attempt x) ∷ []) beside v.changed.items (of_pipeline p (job ∷ []) r.attempts.items before after) refl same_rows (same_indexes ∙ are) settled.board
     (law k p job r.jobs.items r.needs.items r.attempts.items r.rows.items x v before after kept.sound kept.are_board kept.are_indexes at.0 records
     its.0 (sym (eqb-true job.id x.job its.1)) live over settled was is)

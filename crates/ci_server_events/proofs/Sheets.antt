@@ -1,13 +1,10 @@
 -- The records of a pipeline as one sheet, where an attempt of one of its jobs ends.
-use Rattle.std.specs.Prelude.{◌≡◌, Some, None}
-use Rattle.std.proofs.Common.{sym, ap, subst, ◌∙◌}
-use Rattle.ci_graph.specs.JobGraph.{JobGraph}
-use Rattle.ci_machine.specs.Kept.{Kept}
-use Rattle.ci_machine_statuses.specs.Boards.{IsGraphOf}
+use Rattle.std.proofs.Common.{◌≡◌, Some, None, sym, ap, subst, ◌∙◌}
+use Rattle.ci_machine.specs.Prelude.{JobGraph}
+use Rattle.ci_machine_steps.specs.Prelude.{Kept}
+use Rattle.ci_server_lookups.specs.Prelude.{IsGraphOf, AreOf, IsRight}
 use Rattle.ci_server_lookups.specs.declared.records.Records.{Records}
 use Rattle.ci_server_lookups.specs.declared.sheet.Sheet.{Sheet}
-use Rattle.ci_server_lookups.specs.Records.{AreOf}
-use Rattle.ci_server_lookups.specs.Sheets.{IsRight}
 
 -- its records are those of the pipeline
 abbrev pub records_in : Sheet → Records

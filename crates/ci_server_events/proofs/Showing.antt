@@ -1,26 +1,12 @@
 -- What is shown by the claims that were looked up is what is shown by those of the state.
-use Rattle.std.specs.Prelude.{◌≡◌, ℕ, List, [], ◌∷◌, if◌then◌else◌, codes, length, replicate}
-use Rattle.std.proofs.Common.{refl, ap, inl, inr}
+use Rattle.std.proofs.Common.{◌≡◌, ℕ, List, [], ◌∷◌, if◌then◌else◌, codes, length, replicate, refl, ap, inl, inr}
 use Rattle.serde_json.specs.Data.{Data, array, object, member, no_members, string, number, unsigned}
 use Rattle.serde_json.specs.View.{items_of}
 use Rattle.serde_json.specs.Written.{compact_text}
-use Rattle.ci_board.specs.Rows.{no_facts}
-use Rattle.ci_board.specs.Texts.{status_text}
-use Rattle.ci_board.specs.declared.facts.Facts.{Facts}
-use Rattle.ci_board.specs.declared.facts.Row.{Row}
-use Rattle.ci_board.specs.declared.facts.Status.{Status}
-use Rattle.ci_board.specs.declared.facts.Status.TheVariants as status
-use Rattle.ci_machine.specs.declared.records.Claim.{Claim}
-use Rattle.ci_machine.specs.declared.records.Job.{Job}
-use Rattle.ci_machine.specs.declared.records.Pipeline.{Pipeline}
-use Rattle.ci_machine.specs.declared.reply.Body.TheVariants.{Json}
-use Rattle.ci_machine.specs.Bodies.{source_text, printed_status, job_data, jobs_data, status_of_jobs, pipeline_data}
-use Rattle.ci_machine.specs.Eligible.{is_free}
-use Rattle.ci_machine_steps.specs.Pipelines.{Creation, creation_changes, pipeline_created}
-use Rattle.ci_machine_steps.specs.Plans.{created, fine}
-use Rattle.ci_machine_steps.specs.Shows.{job_shown, pipeline_shown}
+use Rattle.ci_machine_steps.specs.Prelude.{no_facts, status_text, Facts, Row, Status, Claim, Job, Pipeline, Json, source_text, printed_status, job_data, jobs_data, status_of_jobs}
+use Rattle.ci_machine_steps.specs.Prelude.{pipeline_data, is_free, Creation, creation_changes, pipeline_created, created, fine, job_shown, pipeline_shown}
 use Rattle.ci_machine.proofs.Keyed.{Has, has_from_all}
-use Rattle.ci_server_lookups.specs.Held.{FreeAlike}
+use Rattle.ci_server_lookups.specs.Prelude.{FreeAlike}
 
 module _ (cs ds : List Claim) (project : ℕ) where
   -- by both the job's group is free, or by neither
@@ -29,14 +15,14 @@ module _ (cs ds : List Claim) (project : ℕ) where
 
   -- the status of a job is printed alike
   pub printed_alike : (j : Job) (s : Status) → IsAlike j → printed_status cs project j s ≡ printed_status ds project j s
-  printed_alike j status.Created same = refl
-  printed_alike j status.Pending same = ap (λ b. if b then status_text status.Pending else codes "waiting_for_resource") same
-  printed_alike j status.Running same = refl
-  printed_alike j status.Success same = refl
-  printed_alike j status.Failed same = refl
-  printed_alike j status.Canceled same = refl
-  printed_alike j status.Skipped same = refl
-  printed_alike j status.Manual same = refl
+  printed_alike j Status.Created same = refl
+  printed_alike j Status.Pending same = ap (λ b. if b then status_text Status.Pending else codes "waiting_for_resource") same
+  printed_alike j Status.Running same = refl
+  printed_alike j Status.Success same = refl
+  printed_alike j Status.Failed same = refl
+  printed_alike j Status.Canceled same = refl
+  printed_alike j Status.Skipped same = refl
+  printed_alike j Status.Manual same = refl
 
   jobs_alike : (js : List Job) (rows : List Row) → ((j : Job) → Has j js → IsAlike j) → jobs_data cs project js rows ≡ jobs_data ds project js rows
   jobs_alike [] rows same = refl

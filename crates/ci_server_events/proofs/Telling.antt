@@ -1,20 +1,11 @@
 -- What is told of jobs by what was looked up is what is told by the whole state.
-use Rattle.std.specs.Prelude.{◌≡◌, ℕ, true, ◌==◌, List, [], ◌∷◌, map, All, Option, Some, IfSome, Result, Ok}
-use Rattle.std.proofs.Common.{refl, sym, ap, subst, inl, inr, eqb-true}
+use Rattle.std.proofs.Common.{◌≡◌, ℕ, true, ◌==◌, List, [], ◌∷◌, map, All, Option, Some, IfSome, Result, Ok, refl, sym, ap, subst, inl, inr, eqb-true}
 use Rattle.serde_json.specs.Data.{Data}
-use Rattle.ci_board.specs.Effects.{is_allowed}
-use Rattle.ci_board.specs.declared.facts.Facts.{Facts}
-use Rattle.ci_board.specs.declared.facts.Row.{Row}
-use Rattle.ci_machine.specs.declared.records.Attempt.{Attempt}
-use Rattle.ci_machine.specs.declared.records.Claim.{Claim}
-use Rattle.ci_machine.specs.declared.records.Job.{Job}
-use Rattle.ci_machine.specs.declared.records.Need.{Need}
-use Rattle.ci_machine.specs.declared.records.Runner.{Runner}
-use Rattle.ci_machine.specs.Eligible.{is_free}
-use Rattle.ci_machine.specs.Listings.{attempt_data, attempts_among, needs_among, listed_job_data, told_job, told_jobs}
-use Rattle.ci_machine.specs.Ranges.{is_within, needs_within, attempts_within}
+use Rattle.ci_machine_steps.specs.Prelude.{is_allowed, Facts, Row, Attempt, Claim, Job, Need, Runner, is_free, attempt_data, needs_among, listed_job_data, told_job, told_jobs}
+use Rattle.ci_machine_steps.specs.Prelude.{is_within, needs_within, attempts_within}
+use Rattle.ci_machine.specs.Listings.{attempts_among}
 use Rattle.ci_machine.proofs.Keyed.{Has, has_from_all}
-use Rattle.ci_server_lookups.specs.Held.{FreeAlike}
+use Rattle.ci_server_lookups.specs.Prelude.{FreeAlike}
 use Rattle.ci_server_events.proofs.Lists.{filter_implied}
 use Rattle.ci_server_events.proofs.Showing.{printed_alike}
 

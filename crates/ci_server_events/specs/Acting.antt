@@ -1,28 +1,9 @@
 -- A user acts on a job: what the machine does, whichever act it is.
 use Rattle.std.specs.Prelude.{ℕ, ◌==◌, List, [], ◌∷◌, filter, Option, Result}
-use Rattle.ci_machine.specs.declared.records.Job.{Job}
-use Rattle.ci_machine.specs.declared.records.Attempt.{Attempt}
-use Rattle.ci_machine.specs.declared.records.BoardRow.{BoardRow}
-use Rattle.ci_machine.specs.declared.records.Claim.{Claim}
-use Rattle.ci_machine.specs.declared.change.RowChange.{RowChange}
-use Rattle.ci_machine.specs.declared.change.IndexChange.{IndexChange}
-use Rattle.ci_machine.specs.declared.reply.Code.{Code}
-use Rattle.ci_machine.specs.declared.reply.Code.TheVariants.{M10, M11, M12}
-use Rattle.ci_machine.specs.State.{State}
-use Rattle.ci_machine.specs.Kept.{Kept, put_rows, written}
-use Rattle.ci_machine.specs.Indexes.{AreIndexes}
-use Rattle.ci_machine.specs.Waiting.{claims_in}
-use Rattle.ci_machine_steps.specs.Plans.{Plan}
-use Rattle.ci_machine_steps.specs.Acts.{permitted, ActsOn}
-use Rattle.ci_machine_steps.specs.Plays.{play}
-use Rattle.ci_machine_steps.specs.Retries.{retry}
-use Rattle.ci_machine_steps.specs.Cancels.{cancel}
-use Rattle.ci_machine_statuses.specs.declared.act.Act.{Act}
-use Rattle.ci_machine_statuses.specs.declared.act.Act.TheVariants.{Play, Retry, Cancel}
-use Rattle.ci_machine_statuses.specs.declared.outcome.Outcome.{Outcome}
-use Rattle.ci_machine_statuses.specs.Acts.{is_permitted, act_changes, acted_jobs, acted_state, IsOutcome}
+use Rattle.ci_machine_steps.specs.Prelude.{Job, Attempt, BoardRow, Claim, RowChange, IndexChange, Code, M10, M11, M12, State, Kept, put_rows, written, AreIndexes, claims_in, Plan}
+use Rattle.ci_machine_steps.specs.Prelude.{permitted, ActsOn, play, retry, cancel}
+use Rattle.ci_server_lookups.specs.Prelude.{Act, Play, Retry, Cancel, Outcome, is_permitted, act_changes, acted_jobs, acted_state, IsOutcome, FreeAlike}
 use Rattle.ci_server_lookups.specs.declared.records.Whole.{Whole}
-use Rattle.ci_server_lookups.specs.Held.{FreeAlike}
 
 -- the code that refuses it to a job whose status doesn't permit it
 abbrev pub refusal_of : Act → Code

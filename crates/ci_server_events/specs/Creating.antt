@@ -1,17 +1,7 @@
 -- What changes beside the records of a new pipeline.
 use Rattle.std.specs.Prelude.{◌≡◌, ℕ, List, length, map, replicate, option_to_list}
-use Rattle.ci_board.specs.Rows.{no_facts}
-use Rattle.ci_board.specs.declared.facts.Row.{Row}
-use Rattle.ci_machine.specs.declared.records.BoardRow.{BoardRow}
-use Rattle.ci_machine.specs.declared.records.Job.{Job}
-use Rattle.ci_machine.specs.declared.records.Need.{Need}
-use Rattle.ci_machine.specs.Bodies.{status_of_jobs}
-use Rattle.ci_machine.specs.Kept.{put_rows}
-use Rattle.ci_machine_steps.specs.Sound.{IsSound}
-use Rattle.ci_machine.specs.State.{State}
-use Rattle.ci_machine.specs.Statuses.{AreBoard}
-use Rattle.ci_machine_statuses.specs.Changes.{IsMade}
-use Rattle.ci_machine_statuses.specs.HolderChanges.{opened}
+use Rattle.ci_machine_steps.specs.Prelude.{no_facts, Row, BoardRow, Job, Need, status_of_jobs, put_rows, IsSound, State, AreBoard}
+use Rattle.ci_server_lookups.specs.Prelude.{IsMade, opened}
 use Rattle.ci_machine_pipelines.specs.declared.creation.Creation.{Creation}
 use Rattle.ci_server_events.specs.declared.planned.Beside.{Beside}
 

@@ -3,13 +3,7 @@ use Rattle.std.specs.Prelude.{ℕ, List, [], ◌∷◌, find, Option, option_map
 use Rattle.std.specs.declared.cmp.Ordering.{Ordering}
 use Rattle.std.specs.Ordering.{nat_cmp}
 use Rattle.serde_json.specs.Data.{Data}
-use Rattle.ci_machine.specs.declared.records.Holder.{Holder}
-use Rattle.ci_machine.specs.declared.records.GroupMode.{GroupMode}
-use Rattle.ci_machine.specs.Eligible.{holds}
-use Rattle.ci_machine.specs.Groups.{order_of}
-use Rattle.ci_machine.specs.Listings.{group_data}
-use Rattle.ci_machine.specs.Lookups.{attempt_at}
-use Rattle.ci_machine.specs.State.{State, put}
+use Rattle.ci_machine_steps.specs.Prelude.{Holder, GroupMode, holds, order_of, group_data, attempt_at, State, put}
 
 -- rows stand by their attempts
 abbrev pub by_attempt : Holder → Holder → Ordering

@@ -1,15 +1,7 @@
 -- What is planned of an event over what a store keeps: changes of records, and what changes beside them.
 use Rattle.std.specs.Prelude.{◌≡◌, ◌⊎◌, List, [], ◌∷◌, if◌then◌else◌, Option, Some, None}
-use Rattle.ci_machine.specs.declared.records.Attempt.{Attempt}
-use Rattle.ci_machine.specs.declared.change.Record.TheVariants as row
-use Rattle.ci_machine.specs.declared.change.RowChange.{RowChange}
-use Rattle.ci_machine.specs.declared.change.RowChange.TheVariants.{Put}
-use Rattle.ci_machine.specs.Leases.{is_live}
-use Rattle.ci_machine.specs.State.{State, applied}
-use Rattle.ci_machine.specs.Kept.{Kept, cleared, put_rows, written}
-use Rattle.ci_machine.specs.Statuses.{AreBoard}
-use Rattle.ci_machine.specs.Indexes.{AreIndexes}
-use Rattle.ci_machine_statuses.specs.Changes.{HasLive}
+use Rattle.ci_machine_steps.specs.Prelude.{Attempt, Record, RowChange, Put, is_live, State, applied, Kept, cleared, put_rows, written, AreBoard, AreIndexes}
+use Rattle.ci_server_lookups.specs.Prelude.{HasLive}
 use Rattle.ci_server_events.specs.declared.planned.Beside.{Beside}
 use Rattle.ci_server_events.specs.declared.planned.Planned.{Planned}
 
@@ -25,9 +17,9 @@ pub record PlansFor {A : Type 0} (k : Kept) (Makes : Type 0) (p : Planned A) : T
 
 -- the changes are none, or they put a live attempt of the state as it stands then
 abbrev pub MovesOne : State → List RowChange → Type 0
-MovesOne s changes = (changes ≡ []) ⊎ ((after : Attempt) × HasLive s after × (changes ≡ Put (row.Attempt after) ∷ []))
+MovesOne s changes = (changes ≡ []) ⊎ ((after : Attempt) × HasLive s after × (changes ≡ Put (Record.Attempt after) ∷ []))
 
 -- the attempt that the changes end, where they put it alone
 abbrev pub attempt_ended : List RowChange → Option Attempt
-attempt_ended (Put (row.Attempt after) ∷ []) = if is_live after then None else Some after
+attempt_ended (Put (Record.Attempt after) ∷ []) = if is_live after then None else Some after
 attempt_ended _ = None

@@ -1,23 +1,11 @@
 -- What is told of what was looked up.
 use Rattle.std.specs.Prelude.{◌≡◌, ℕ, List, length, filter, ◌==◌, Option, Some, None, option_map}
-use Rattle.ci_machine.specs.declared.records.Attempt.{Attempt}
-use Rattle.ci_machine.specs.declared.records.BoardRow.{BoardRow}
-use Rattle.ci_machine.specs.declared.records.Claim.{Claim}
-use Rattle.ci_machine.specs.declared.records.Job.{Job}
-use Rattle.ci_machine.specs.declared.records.Pipeline.{Pipeline}
-use Rattle.ci_machine.specs.declared.report.QueueRow.{QueueRow}
-use Rattle.ci_machine.specs.declared.report.JobRow.{JobRow}
-use Rattle.ci_machine.specs.declared.report.PipelineRows.{PipelineRows}
-use Rattle.ci_machine.specs.Indexes.{with_status}
-use Rattle.ci_machine.specs.ReportRows.{queue_row, shown_status, job_rows}
-use Rattle.ci_machine.specs.State.{State}
-use Rattle.ci_machine.specs.Statuses.{status_for}
-use Rattle.ci_machine.specs.Waiting.{groups_in}
-use Rattle.ci_machine_statuses.specs.Pages.{queued_at}
+use Rattle.ci_machine_steps.specs.Prelude.{Attempt, BoardRow, Claim, Job, Pipeline, QueueRow, JobRow, PipelineRows, with_status, queue_row, shown_status, job_rows, State}
+use Rattle.ci_machine_steps.specs.Prelude.{status_for, groups_in, queued_at}
 
 -- the job of a row, which is pending
 abbrev pub row_told : State → List BoardRow → BoardRow → Option QueueRow
-row_told s board r = option_map (queue_row (groups_in s board)) (queued_at s r)
+row_told s board r = option_map (queue_row (groups_in s board)) (queued_at s r.job)
 
 -- a job of a project, by these attempts and rows, and the claims for which it must wait
 abbrev pub job_told : List Claim → ℕ → List Attempt → List BoardRow → Job → JobRow

@@ -1,25 +1,11 @@
 //! What a user's act on jobs does, from what the store holds: a job is played, tried again or cancelled, or a pipeline is cancelled.
 
 ghost use Rattle.std.specs.Prelude.{◌≡◌, ◌<◌, ◌++◌, ℕ, List, length, map, All, Contains, Some, None, Ok, IfOk, slice_index_or};
-ghost use Rattle.ci_machine.specs.declared.records.Job.{Job};
-ghost use Rattle.ci_machine.specs.declared.records.BoardRow.{BoardRow};
-ghost use Rattle.ci_machine_steps.specs.Cancels.{CancelsPipeline, CancelsSome, cancellable_jobs};
-ghost use Rattle.ci_machine.specs.Groups.{held_claim};
-ghost use Rattle.ci_machine.specs.Kept.{Kept};
-ghost use Rattle.ci_machine_steps.specs.Shows.{job_shown};
-ghost use Rattle.ci_machine_steps.specs.Sound.{IsSound};
-ghost use Rattle.ci_machine.specs.State.{State};
-ghost use Rattle.ci_machine.specs.Statuses.{AreBoard};
-ghost use Rattle.ci_machine_steps.specs.Step.{found_job, found_pipeline};
-ghost use Rattle.ci_machine_steps.specs.Sweeps.{sweep};
-ghost use Rattle.ci_machine_statuses.specs.Acts.{IsOutcome};
-ghost use Rattle.ci_machine_statuses.specs.Lookups.{AreRecords};
-ghost use Rattle.ci_store.specs.Store.{LoadsBy};
-ghost use Rattle.ci_server_lookups.specs.Held.{still_held};
-ghost use Rattle.ci_server_lookups.specs.Records.{IsWhole};
-ghost use Rattle.ci_machine_statuses.specs.HolderChanges.{unleased};
+ghost use Rattle.ci_machine_steps.specs.Prelude.{Job, BoardRow, CancelsPipeline, CancelsSome, cancellable_jobs, held_claim, Kept, job_shown, IsSound, State, AreBoard, found_job};
+ghost use Rattle.ci_machine_steps.specs.Prelude.{found_pipeline, sweep};
+ghost use Rattle.ci_server_lookups.specs.Prelude.{IsOutcome, AreRecords, still_held, IsWhole, unleased, IsKept};
+ghost use Rattle.ci_store.specs.Prelude.{LoadsBy};
 ghost use Rattle.ci_server_events.specs.Acting.{refusal_of, ActsAs, changes_by, IsDone};
-ghost use Rattle.ci_server_lookups.specs.Keeps.{IsKept};
 ghost use Rattle.ci_server_events.specs.Planning.{PlansFor};
 
 use crate::ends::status_before;

@@ -1,23 +1,10 @@
 //! What changes beside the records where an attempt ends.
 
-ghost use Rattle.std.specs.Prelude.{◌≡◌, ◌==◌, ℕ, ◌∷◌, [], false, find, Some, None, IfOk, IfErr, OnOk};
-ghost use Rattle.std.specs.Option.{option_copied};
+ghost use Rattle.std.specs.Prelude.{◌≡◌, ◌==◌, ℕ, ◌∷◌, [], false, find, Some, None, IfOk, IfErr, OnOk, option_copied};
 ghost use Rattle.ci_machine.specs.declared.change.Record.TheVariants as row;
-ghost use Rattle.ci_machine.specs.declared.change.RowChange.TheVariants.{Put};
-ghost use Rattle.ci_machine.specs.Bodies.{status_of_jobs};
-ghost use Rattle.ci_machine.specs.Kept.{Kept};
-ghost use Rattle.ci_machine.specs.Leases.{is_live};
-ghost use Rattle.ci_machine.specs.Statuses.{jobs_of, facts_of, rows_of};
-ghost use Rattle.ci_machine_steps.specs.Step.{pipeline_at};
-ghost use Rattle.ci_machine.specs.declared.records.Job.{Job};
-ghost use Rattle.ci_machine_statuses.specs.Boards.{IsGraphOf};
-ghost use Rattle.ci_machine_statuses.specs.Changes.{HasLive};
-ghost use Rattle.ci_machine_statuses.specs.HolderChanges.{of_pipeline};
-ghost use Rattle.ci_store.specs.Store.{LoadsBy};
-ghost use Rattle.ci_server_lookups.specs.Records.{AreOf};
-ghost use Rattle.ci_server_lookups.specs.Keeps.{IsKept};
-ghost use Rattle.ci_server_lookups.specs.Sheets.{IsRight};
-ghost use Rattle.ci_store.specs.declared.fault.StoreFault.TheVariants.{Memory};
+ghost use Rattle.ci_machine_steps.specs.Prelude.{Put, status_of_jobs, Kept, is_live, jobs_of, facts_of, rows_of, pipeline_at, Job};
+ghost use Rattle.ci_server_lookups.specs.Prelude.{IsGraphOf, HasLive, of_pipeline, AreOf, IsKept, IsRight, Memory};
+ghost use Rattle.ci_store.specs.Prelude.{LoadsBy};
 ghost use Rattle.ci_server_events.specs.Planning.{Settles, MovesOne, attempt_ended};
 
 use crate::planned::Beside;

@@ -1,8 +1,8 @@
 //! What a request does, from what a store holds: what it needs is looked up, and its plan is made. The store stays as it is.
 
-ghost use Rattle.ci_machine_steps.specs.Step.{Does};
-ghost use Rattle.ci_store.specs.Store.{LoadsBy};
-ghost use Rattle.ci_server_lookups.specs.Keeps.{IsKept, HoldsKept};
+ghost use Rattle.ci_machine_steps.specs.Prelude.{Does};
+ghost use Rattle.ci_store.specs.Prelude.{LoadsBy};
+ghost use Rattle.ci_server_lookups.specs.Prelude.{IsKept, HoldsKept};
 ghost use Rattle.ci_server_events.specs.Planning.{PlansFor};
 
 use crate::acts::{act_on, cancel_pipeline};

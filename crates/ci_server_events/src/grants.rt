@@ -2,14 +2,13 @@
 
 ghost use Rattle.std.specs.Prelude.{◌≡◌, ◌∷◌, [], Some, IfOk, IfErr, if◌then◌else◌};
 ghost use Rattle.ci_machine_steps.specs.Grants as machine;
-ghost use Rattle.ci_machine.specs.Holders.{holds_group};
+ghost use Rattle.ci_machine_steps.specs.Prelude.{holds_group};
 ghost use Rattle.ci_machine_steps.specs.Step as step;
 ghost use Rattle.ci_machine.specs.declared.request.Request.TheVariants as asked;
-ghost use Rattle.ci_store.specs.Store.{LoadsBy};
+ghost use Rattle.ci_store.specs.Prelude.{LoadsBy};
 ghost use Rattle.ci_board.specs.declared.facts.Status.TheVariants as status;
-ghost use Rattle.ci_server_lookups.specs.Keeps.{IsKept};
+ghost use Rattle.ci_server_lookups.specs.Prelude.{IsKept, IsOffered};
 ghost use Rattle.ci_server_events.specs.Planning.{PlansFor};
-ghost use Rattle.ci_server_lookups.specs.Search.{IsOffered};
 
 use crate::planned::{Beside, Planned, listed};
 use ci_machine::change::Counter;

@@ -11,6 +11,7 @@ mod modes;
 pub mod overview;
 mod pipelines;
 pub mod planned;
+pub mod prepare;
 mod projects;
 mod prunes;
 mod reads;

@@ -1,12 +1,10 @@
 //! What a request that sets the process mode of a resource group does, or one that asks for it, from what the store holds.
 
 ghost use Rattle.std.specs.Prelude.{◌≡◌, Ok, option_map};
-ghost use Rattle.ci_machine.specs.Groups.{order_of};
+ghost use Rattle.ci_machine_steps.specs.Prelude.{order_of, asked_project, project_with};
 ghost use Rattle.ci_machine_steps.specs.Modes as machine;
-ghost use Rattle.ci_machine_steps.specs.Plans.{asked_project};
-ghost use Rattle.ci_machine_steps.specs.Step.{project_with};
-ghost use Rattle.ci_store.specs.Store.{LoadsBy};
-ghost use Rattle.ci_server_lookups.specs.Keeps.{IsKept};
+ghost use Rattle.ci_store.specs.Prelude.{LoadsBy};
+ghost use Rattle.ci_server_lookups.specs.Prelude.{IsKept};
 ghost use Rattle.ci_server_events.specs.Planning.{PlansFor};
 
 use crate::planned::Planned;

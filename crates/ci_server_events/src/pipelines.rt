@@ -3,14 +3,12 @@
 
 ghost use Rattle.std.specs.Prelude.{◌≡◌, ◌≤◌, ◌+◌, [], length, Ok, IfOk};
 ghost use Rattle.std.specs.Result.{result_map_both};
-ghost use Rattle.ci_machine.specs.Waiting.{claims_in};
+ghost use Rattle.ci_machine_steps.specs.Prelude.{claims_in, asked_project, project_with, project_variables};
 ghost use Rattle.ci_machine_steps.specs.Pipelines as machine;
-ghost use Rattle.ci_machine_steps.specs.Plans.{asked_project};
-ghost use Rattle.ci_machine_steps.specs.Step.{project_with, project_variables};
 ghost use Rattle.ci_machine_plans.specs.Refusals as refusals;
 ghost use Rattle.ci_machine_pipelines.specs.Creations.{creation_view};
-ghost use Rattle.ci_store.specs.Store.{LoadsBy};
-ghost use Rattle.ci_server_lookups.specs.Keeps.{IsKept};
+ghost use Rattle.ci_store.specs.Prelude.{LoadsBy};
+ghost use Rattle.ci_server_lookups.specs.Prelude.{IsKept};
 ghost use Rattle.ci_server_events.specs.Planning.{PlansFor};
 ghost use Rattle.ci_server_events.specs.Creating.{rows_beside, IsMadeBeside};
 

@@ -2,11 +2,9 @@
 
 ghost use Rattle.std.specs.Prelude.{◌≡◌, [], option_to_list, Ok, IfOk, IfErr, Err};
 ghost use Rattle.std.specs.List.{AllByRecursion};
-ghost use Rattle.ci_machine.specs.Kept.{Kept, cleared};
-ghost use Rattle.ci_machine.specs.State.{State};
-ghost use Rattle.ci_machine_statuses.specs.Changes.{LeavesStatuses};
+ghost use Rattle.ci_machine_steps.specs.Prelude.{Kept, cleared, State};
+ghost use Rattle.ci_server_lookups.specs.Prelude.{LeavesStatuses, IsKept};
 ghost use Rattle.ci_machine_steps.specs.Plans as machine;
-ghost use Rattle.ci_server_lookups.specs.Keeps.{IsKept};
 ghost use Rattle.ci_server_events.specs.Planning.{Settles};
 
 use ci_machine::change::{Changes, IndexChange};

@@ -2,10 +2,10 @@
 
 ghost use Rattle.std.specs.Prelude.{◌≡◌};
 ghost use Rattle.std.specs.Result.{result_map_both};
-ghost use Rattle.ci_machine_steps.specs.Plans.{asked_project};
+ghost use Rattle.ci_machine_steps.specs.Prelude.{asked_project};
 ghost use Rattle.ci_machine_steps.specs.Projects as machine;
-ghost use Rattle.ci_store.specs.Store.{LoadsBy};
-ghost use Rattle.ci_server_lookups.specs.Keeps.{IsKept};
+ghost use Rattle.ci_store.specs.Prelude.{LoadsBy};
+ghost use Rattle.ci_server_lookups.specs.Prelude.{IsKept};
 ghost use Rattle.ci_server_events.specs.Planning.{PlansFor};
 
 use crate::planned::Planned;

@@ -1,12 +1,10 @@
 //! What a request to prune does, from what the store holds.
 
 ghost use Rattle.std.specs.Prelude.{◌≡◌, false, map, Contains, Some, IfOk};
-ghost use Rattle.ci_machine.specs.Indexes.{is_open_in};
-ghost use Rattle.ci_machine.specs.Statuses.{jobs_of};
+ghost use Rattle.ci_machine_steps.specs.Prelude.{is_open_in, jobs_of, jobs_in};
 ghost use Rattle.ci_machine_steps.specs.Prunes as machine;
-ghost use Rattle.ci_machine_steps.specs.Step.{jobs_in};
-ghost use Rattle.ci_store.specs.Store.{LoadsBy};
-ghost use Rattle.ci_server_lookups.specs.Keeps.{IsKept, HoldsKept};
+ghost use Rattle.ci_store.specs.Prelude.{LoadsBy};
+ghost use Rattle.ci_server_lookups.specs.Prelude.{IsKept, HoldsKept};
 ghost use Rattle.ci_server_events.specs.Planning.{PlansFor};
 
 use crate::planned::Planned;

@@ -1,13 +1,11 @@
 //! What a question for a project does, or for what it has, from what the store holds: nothing more is looked up than what is asked for.
 
 ghost use Rattle.std.specs.Prelude.{◌≡◌, Ok};
-ghost use Rattle.ci_machine.specs.Lookups.{job_at, pipeline_of, project_with};
+ghost use Rattle.ci_machine_steps.specs.Prelude.{job_at, pipeline_of, project_with, asked_project, job_within};
 ghost use Rattle.ci_machine.specs.declared.request.Subject.TheVariants as subject;
-ghost use Rattle.ci_machine_steps.specs.Plans.{asked_project};
 ghost use Rattle.ci_machine_steps.specs.Reads as machine;
-ghost use Rattle.ci_machine_steps.specs.Shows.{job_within};
-ghost use Rattle.ci_store.specs.Store.{LoadsBy};
-ghost use Rattle.ci_server_lookups.specs.Keeps.{IsKept};
+ghost use Rattle.ci_store.specs.Prelude.{LoadsBy};
+ghost use Rattle.ci_server_lookups.specs.Prelude.{IsKept};
 ghost use Rattle.ci_server_events.specs.Planning.{PlansFor};
 
 use crate::planned::Planned;

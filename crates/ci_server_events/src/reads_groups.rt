@@ -2,12 +2,12 @@
 
 ghost use Rattle.std.specs.Prelude.{◌≡◌, map, option_map};
 ghost use Rattle.ci_machine.specs.declared.request.Subject.TheVariants as subject;
-ghost use Rattle.ci_machine.specs.Holders.{holders, holders_in};
+ghost use Rattle.ci_machine_steps.specs.Prelude.{holders, holders_in};
 ghost use Rattle.ci_machine_plans.specs.Objects.{told_group};
 ghost use Rattle.ci_machine_steps.specs.Reads as machine;
-ghost use Rattle.ci_store.specs.Store.{LoadsBy};
+ghost use Rattle.ci_store.specs.Prelude.{LoadsBy};
 ghost use Rattle.ci_server_events.specs.Groups.{job_holding, group_by};
-ghost use Rattle.ci_server_lookups.specs.Keeps.{IsKept};
+ghost use Rattle.ci_server_lookups.specs.Prelude.{IsKept};
 
 use crate::group_lists::{by_attempt, holding, names};
 use ci_machine::choose::order_of;

@@ -1,17 +1,11 @@
 //! The newest pipelines of a project, each with the status that follows from what the store holds of its jobs.
 
 ghost use Rattle.std.specs.Prelude.{◌≡◌, ℕ, List, map, IfOk, IfErr};
-ghost use Rattle.ci_machine.specs.declared.records.Need.{Need};
+ghost use Rattle.ci_machine_steps.specs.Prelude.{Need, status_of_jobs, with_status, Kept, jobs_of, facts_of, rows_of};
 ghost use Rattle.ci_machine.specs.declared.request.Subject.TheVariants as subject;
-ghost use Rattle.ci_machine.specs.Bodies.{status_of_jobs};
-ghost use Rattle.ci_machine.specs.Indexes.{with_status};
-ghost use Rattle.ci_machine.specs.Kept.{Kept};
-ghost use Rattle.ci_machine.specs.Statuses.{jobs_of, facts_of, rows_of};
 ghost use Rattle.ci_machine_steps.specs.Reads as machine;
-ghost use Rattle.ci_machine_statuses.specs.Lookups.{AreRecords};
-ghost use Rattle.ci_store.specs.declared.fault.StoreFault.TheVariants.{Memory};
-ghost use Rattle.ci_store.specs.Store.{LoadsBy};
-ghost use Rattle.ci_server_lookups.specs.Keeps.{IsKept};
+ghost use Rattle.ci_server_lookups.specs.Prelude.{AreRecords, Memory, IsKept};
+ghost use Rattle.ci_store.specs.Prelude.{LoadsBy};
 
 use crate::shows::loaded;
 use ci_board::facts::Status;

@@ -1,23 +1,13 @@
 //! What a question for a pipeline, for a job or for its trace does, from what the store holds.
 
-ghost use Rattle.std.specs.Prelude.{◌≡◌, None, ℕ, List, length, IfOk, IfErr};
+ghost use Rattle.std.specs.Prelude.{◌≡◌, None, ℕ, List, length, IfOk, IfErr, option_copied};
 ghost use Rattle.std.specs.List.{last_or};
-ghost use Rattle.std.specs.Option.{option_copied};
 ghost use Rattle.std.specs.Result.{result_map_both};
-ghost use Rattle.ci_machine.specs.declared.records.BoardRow.{BoardRow};
-ghost use Rattle.ci_machine.specs.declared.records.Need.{Need};
-ghost use Rattle.ci_machine.specs.Waiting.{claims_in};
-ghost use Rattle.ci_machine.specs.State.{State};
-ghost use Rattle.ci_machine.specs.Kept.{Kept};
-ghost use Rattle.ci_machine_steps.specs.Plans.{asked_project};
+ghost use Rattle.ci_machine_steps.specs.Prelude.{BoardRow, Need, claims_in, State, Kept, asked_project, IsSound, jobs_of, facts_of, rows_of, status_for, AreBoard};
 ghost use Rattle.ci_machine_steps.specs.Shows as machine;
-ghost use Rattle.ci_machine_steps.specs.Sound.{IsSound};
-ghost use Rattle.ci_machine.specs.Statuses.{jobs_of, facts_of, rows_of, status_for, AreBoard};
 ghost use Rattle.ci_machine_steps.specs.Step as step;
-ghost use Rattle.ci_machine_statuses.specs.Lookups.{AreRecords};
-ghost use Rattle.ci_store.specs.declared.fault.StoreFault.TheVariants.{Memory};
-ghost use Rattle.ci_store.specs.Store.{LoadsBy};
-ghost use Rattle.ci_server_lookups.specs.Keeps.{IsKept};
+ghost use Rattle.ci_server_lookups.specs.Prelude.{AreRecords, Memory, IsKept};
+ghost use Rattle.ci_store.specs.Prelude.{LoadsBy};
 ghost use Rattle.ci_server_events.specs.Planning.{PlansFor};
 
 use crate::planned::Planned;

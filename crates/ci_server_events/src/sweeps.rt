@@ -1,11 +1,10 @@
 //! What a sweep does, from what the store holds.
 
 ghost use Rattle.std.specs.Prelude.{◌≡◌, None};
-ghost use Rattle.ci_machine_steps.specs.Sweeps.{ends, sweep};
+ghost use Rattle.ci_machine_steps.specs.Prelude.{ends, sweep};
 ghost use Rattle.ci_machine_steps.specs.Step as step;
-ghost use Rattle.ci_machine_statuses.specs.Changes.{HasLive};
-ghost use Rattle.ci_store.specs.Store.{LoadsBy};
-ghost use Rattle.ci_server_lookups.specs.Keeps.{IsKept, HoldsKept};
+ghost use Rattle.ci_server_lookups.specs.Prelude.{HasLive, IsKept, HoldsKept};
+ghost use Rattle.ci_store.specs.Prelude.{LoadsBy};
 ghost use Rattle.ci_server_events.specs.Planning.{PlansFor};
 
 use crate::acts::cancel_redundant;

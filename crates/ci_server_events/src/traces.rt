@@ -2,9 +2,9 @@
 
 ghost use Rattle.std.specs.Prelude.{◌≡◌, length};
 ghost use Rattle.ci_machine_steps.specs.Traces as machine;
-ghost use Rattle.ci_machine_steps.specs.Step.{lease_at, trace_of};
-ghost use Rattle.ci_store.specs.Store.{LoadsBy};
-ghost use Rattle.ci_server_lookups.specs.Keeps.{IsKept};
+ghost use Rattle.ci_machine_steps.specs.Prelude.{lease_at, trace_of};
+ghost use Rattle.ci_store.specs.Prelude.{LoadsBy};
+ghost use Rattle.ci_server_lookups.specs.Prelude.{IsKept};
 ghost use Rattle.ci_server_events.specs.Planning.{PlansFor};
 
 use crate::planned::{Beside, Planned};

@@ -1,11 +1,10 @@
 //! What a request that sets a project's variable does, or one by which it goes, from what the store holds.
 
 ghost use Rattle.std.specs.Prelude.{◌≡◌, Ok};
-ghost use Rattle.ci_machine_steps.specs.Plans.{asked_project};
-ghost use Rattle.ci_machine_steps.specs.Step.{project_with, project_variables, variable_at};
+ghost use Rattle.ci_machine_steps.specs.Prelude.{asked_project, project_with, project_variables, variable_at};
 ghost use Rattle.ci_machine_steps.specs.Variables as machine;
-ghost use Rattle.ci_store.specs.Store.{LoadsBy};
-ghost use Rattle.ci_server_lookups.specs.Keeps.{IsKept};
+ghost use Rattle.ci_store.specs.Prelude.{LoadsBy};
+ghost use Rattle.ci_server_lookups.specs.Prelude.{IsKept};
 ghost use Rattle.ci_server_events.specs.Planning.{PlansFor};
 
 use crate::planned::Planned;

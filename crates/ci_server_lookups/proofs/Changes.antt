@@ -1,13 +1,8 @@
 -- Changes one after the other, and what changes of indexes leave as it was.
-use Rattle.std.specs.Prelude.{◌≡◌, ℕ, ◌+◌, ◌<◌, ◌++◌, List, [], ◌∷◌, length, take, slice_index_or}
-use Rattle.std.proofs.Common.{refl, sym, ap, ◌∙◌}
+use Rattle.std.proofs.Common.{◌≡◌, ℕ, ◌+◌, ◌<◌, ◌++◌, List, [], ◌∷◌, length, take, slice_index_or, refl, sym, ap, ◌∙◌}
 use Rattle.std.proofs.lemmas.List.{take_more}
-use Rattle.ci_machine.specs.declared.change.IndexChange.{IndexChange}
-use Rattle.ci_machine.specs.declared.change.IndexChange.TheVariants.{Hold, Free, Open, Close}
-use Rattle.ci_machine.specs.declared.change.RowChange.{RowChange}
-use Rattle.ci_machine.specs.declared.records.BoardRow.{BoardRow}
-use Rattle.ci_machine.specs.Kept.{Kept, row_cmp, put_rows, indexed, indexed_all}
-use Rattle.ci_machine.specs.State.{State, put, changed, applied}
+use Rattle.ci_machine_steps.specs.Prelude.{IndexChange, Hold, Free, Close, RowChange, BoardRow, Kept, row_cmp, put_rows, indexed, indexed_all, State, put, changed, applied}
+use Rattle.ci_machine.specs.declared.change.IndexChange.TheVariants.{Open}
 use Rattle.ci_machine_steps.proofs.Created.{applied_append}
 
 -- the state after one change more of a list

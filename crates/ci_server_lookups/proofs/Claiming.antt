@@ -1,20 +1,16 @@
 -- For which groups a pipeline's jobs must wait, by what is looked up and by how the groups of the state stand.
-use Rattle.std.specs.Prelude.{◌≡◌, ℕ, ◌+◌, ◌<◌, ◌&&◌, ◌==◌, not, Bool, true, false, List, [], ◌∷◌, ◌++◌, length, take, map, flat_map, Option, Some, None, slice_index_or}
+use Rattle.std.proofs.Common.{◌≡◌, ℕ, ◌+◌, ◌<◌, ◌&&◌, ◌==◌, not, Bool, true, false, List, [], ◌∷◌, ◌++◌, length, take, map, flat_map, Option, Some, None, slice_index_or, refl, sym}
+use Rattle.std.proofs.Common.{ap, subst, ◌∙◌, inl, ⊎_elim, eq-eqb}
 use Rattle.std.specs.List.{list_any}
 use Rattle.std.specs.Str.{bytes_eq}
-use Rattle.std.proofs.Common.{refl, sym, ap, subst, ◌∙◌, inl, ⊎_elim, eq-eqb}
 use Rattle.std.proofs.lemmas.Bool.{cases_Bool, both_ways, and_parts}
 use Rattle.std.proofs.lemmas.List.{take_more, flat_map_more, append_assoc}
 use Rattle.std.proofs.lemmas.Slice.Eq.{bytes_eq-Decides}
-use Rattle.ci_machine.specs.declared.records.Claim.{Claim}
-use Rattle.ci_machine.specs.declared.records.Holder.{Holder}
-use Rattle.ci_machine.specs.declared.records.Job.{Job}
-use Rattle.ci_machine.specs.Eligible.{holds, claims_group, is_free}
-use Rattle.ci_machine.specs.Groups.{Groups, order_of, is_behind, held_claim, claims_ahead, claims_on}
+use Rattle.ci_machine_steps.specs.Prelude.{Claim, Holder, Job, holds, claims_group, is_free, Groups, order_of, is_behind, held_claim, claims_ahead, claims_on}
 use Rattle.ci_machine.proofs.Claims.{free_append, free_held, free_ahead}
 use Rattle.ci_machine.proofs.Keyed.{Has, has_from_all, All-from_has}
 use Rattle.ci_machine.proofs.Tests.{any_has, has_any}
-use Rattle.ci_server_lookups.specs.Held.{is_unheld, HoldAlike, FreeAlike, claim_if, ahead_for}
+use Rattle.ci_server_lookups.specs.Prelude.{is_unheld, HoldAlike, FreeAlike, claim_if, ahead_for}
 use Rattle.ci_server_lookups.proofs.Holds.{has_flat, flat_has}
 
 -- ---- of one group

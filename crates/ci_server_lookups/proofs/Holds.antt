@@ -1,19 +1,14 @@
 -- Resource groups, by the holders that are looked up and by those of the state.
-use Rattle.std.specs.Prelude.{◌≡◌, ◌⊎◌, ℕ, ◌+◌, ◌<◌, ◌||◌, cond, not, Bool, true, false, List, [], ◌∷◌, ◌++◌, length, take, find, flat_map, Contains, Option, Some, None, is_some, option_to_list, slice_index_or}
+use Rattle.std.proofs.Common.{◌≡◌, ◌⊎◌, ℕ, ◌+◌, ◌<◌, ◌||◌, cond, not, Bool, true, false, List, [], ◌∷◌, ◌++◌, length, take, find, flat_map, Contains, Option, Some, None, is_some}
+use Rattle.std.proofs.Common.{option_to_list, slice_index_or, refl, sym, ap, subst, ◌∙◌, inl, inr, ⊎_elim}
 use Rattle.std.specs.List.{list_any}
-use Rattle.std.proofs.Common.{refl, sym, ap, subst, ◌∙◌, inl, inr, ⊎_elim}
 use Rattle.std.proofs.lemmas.Bool.{cases_Bool, both_ways}
-use Rattle.std.proofs.lemmas.List.{take_more, flat_map_more, append-nil}
+use Rattle.std.proofs.lemmas.List.{append-nil}
 use Rattle.std.proofs.lemmas.List.Elements.{filter_more}
-use Rattle.ci_machine.specs.declared.records.Holder.{Holder}
-use Rattle.ci_machine.specs.declared.records.Job.{Job}
-use Rattle.ci_machine.specs.State.{State}
-use Rattle.ci_machine.specs.Eligible.{holds}
-use Rattle.ci_machine.specs.Holders.{holders, holder_at, AreHolders}
+use Rattle.ci_machine_steps.specs.Prelude.{Holder, Job, State, holds, holders, holder_at, AreHolders, IndexChange}
 use Rattle.ci_machine.proofs.Keyed.{Has, has_find, has_from_all, has_from_contains, All-from_has}
 use Rattle.ci_machine.proofs.Tests.{any_has, has_any}
-use Rattle.ci_machine.specs.declared.change.IndexChange.{IndexChange}
-use Rattle.ci_server_lookups.specs.Held.{is_unheld, HoldAlike, holder_for, frees, still_held}
+use Rattle.ci_server_lookups.specs.Prelude.{is_unheld, HoldAlike, holder_for, frees, still_held}
 
 -- ---- lists
 
@@ -66,13 +61,6 @@ none_any p [] e = refl
 none_any p (x ∷ xs) e =
     ⊎_elim (λ t. absurd (let bad : ◌≡◌ {A = Option _} (Some x) None = sym (ap (λ b. cond b (Some x) (find p xs)) t) ∙ e in cc))
     (λ f. ap (λ b. b || list_any p xs) f ∙ none_any p xs (sym (ap (λ b. cond b (Some x) (find p xs)) f) ∙ e)) (cases_Bool (p x))
-
--- a group is free where no row of it is found
-pub free_if_none : (rows : List Holder) (project : ℕ) (group : List ℕ) → holder_at project group rows ≡ None → is_unheld rows project (Some group) ≡ true
-free_if_none rows project group e = ap not (none_any (holds project group) rows e)
-
-pub held_if_some : (rows : List Holder) (project : ℕ) (group : List ℕ) (h : Holder) → holder_at project group rows ≡ Some h → is_unheld rows project (Some group) ≡ false
-held_if_some rows project group h e = ap not (found_any (holds project group) h rows e)
 
 -- what is looked up is there where one passes
 pub any_if_some : {A : Type 0} (p : A → Bool) (xs : List A) (o : Option A) → o ≡ find p xs → is_some o ≡ list_any p xs
@@ -128,22 +116,9 @@ module _ (project : ℕ) (rows : List Holder) (jobs : List Job) where
       (one_way (holds project group) gathered rows (λ h m _. let w = flat_has for_job h jobs m in found_there project rows w.0.options.resource_group h w.1.1))
       (back j group k its))
 
-  -- by those that are found for jobs the same groups of theirs are free as by all
-  pub gathered_alike : HoldAlike gathered rows project jobs
-  gathered_alike = All-from_has _ jobs (λ j k. alike_for j j.options.resource_group k refl)
-
 -- the holders that are found for jobs, one after the other
 abbrev pub gathered_in : ℕ → List Holder → List Job → List Holder
 gathered_in project rows jobs = flat_map (λ j. holder_for project rows j.options.resource_group) jobs
-
-pub gathered_more : (project : ℕ) (rows : List Holder) (jobs : List Job) (i : ℕ) (j : Job) (found next : List Holder) → i < length jobs → j ≡ slice_index_or jobs i j
-    → found ≡ gathered_in project rows (take i jobs) → next ≡ found ++ holder_for project rows j.options.resource_group → next ≡ gathered_in project rows (take (i + 1) jobs)
-gathered_more project rows jobs i j found next within at before more =
-    let f : Job → List Holder = λ j. holder_for project rows j.options.resource_group in
-    more
-    ∙ (ap (λ (hs : List Holder). hs ++ f j) before
-    ∙ (flat_map_more f [] (take i jobs) j
-    ∙ ap (flat_map f) (ap (λ (x : Job). take i jobs ++ x ∷ []) at ∙ sym (take_more jobs i j within))))
 
 -- by them the same groups of the jobs are free as by the state's
 pub found_alike : (s : State) (rows : List Holder) → AreHolders s rows → (project : ℕ) (jobs : List Job) (found : List Holder) → found ≡ gathered_in project rows jobs → HoldAlike found (holders s) project jobs

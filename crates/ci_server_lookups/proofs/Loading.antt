@@ -1,13 +1,8 @@
 -- Loads one after the other.
-use Rattle.std.specs.Prelude.{◌≡◌, Result, Ok, Err, IfOk, IfErr}
-use Rattle.std.proofs.Common.{refl, sym, subst}
-use Rattle.ci_machine.specs.Kept.{Kept}
-use Rattle.ci_store.specs.declared.fault.StoreFault.{StoreFault}
-use Rattle.ci_store.specs.declared.fault.StoreFault.TheVariants.{Memory, Broken}
-use Rattle.ci_machine_statuses.specs.declared.fault.StatusFault.{StatusFault}
-use Rattle.ci_store.specs.Store.{LoadsBy, UnlessBroken}
-use Rattle.ci_server_lookups.specs.Faults.{as_store_fault}
-use Rattle.ci_server_lookups.specs.Keeps.{IsKept, HoldsKept}
+use Rattle.std.proofs.Common.{◌≡◌, Result, Ok, Err, IfOk, IfErr, refl, sym, subst}
+use Rattle.ci_machine_steps.specs.Prelude.{Kept}
+use Rattle.ci_server_lookups.specs.Prelude.{StoreFault, Memory, Broken, StatusFault, as_store_fault, IsKept, HoldsKept}
+use Rattle.ci_store.specs.Prelude.{LoadsBy, UnlessBroken}
 
 unless : {A : Type 0} {P : Type 0} (r : Result A StoreFault) → P → UnlessBroken r P
 unless (Ok x) p = p

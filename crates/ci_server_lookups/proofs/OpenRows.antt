@@ -1,32 +1,18 @@
 -- The pipelines that aren't finished are those of which a job has a row that keeps them open.
-use Rattle.std.specs.Prelude.{◌≡◌, ◌⊎◌, ℕ, Bool, true, false, ◌||◌, ◌==◌, List, filter, Option, Some, None}
+use Rattle.std.proofs.Common.{◌≡◌, ◌⊎◌, ℕ, Bool, true, false, ◌||◌, ◌==◌, List, filter, Option, Some, None, refl, sym, ap, subst, ◌∙◌, inl, inr, ⊎_elim, eqb-true, eq-eqb}
 use Rattle.std.specs.List.{list_any, dedup}
-use Rattle.std.proofs.Common.{refl, sym, ap, subst, ◌∙◌, inl, inr, ⊎_elim, eqb-true, eq-eqb}
 use lib.Dec.{eqb}
 use Rattle.std.proofs.lemmas.List.Kept.{Contains-dedup_nat, Contains-from_dedup}
 use Rattle.std.proofs.lemmas.Bool.{false≢true, and_parts, and_from, or_cases, or_left, or_right}
-use Rattle.ci_values.specs.declared.when.AllowFailure.{AllowFailure}
-use Rattle.ci_board.specs.declared.facts.Row.{Row}
-use Rattle.ci_board.specs.declared.facts.Status.{Status}
-use Rattle.ci_board.specs.declared.facts.Status.TheVariants as status
-use Rattle.ci_board.specs.Effects.{is_status}
-use Rattle.ci_machine.specs.declared.records.Pipeline.{Pipeline}
-use Rattle.ci_machine.specs.declared.records.Job.{Job}
-use Rattle.ci_machine.specs.declared.records.BoardRow.{BoardRow}
-use Rattle.ci_machine.specs.declared.records.Unfinished.{Unfinished}
-use Rattle.ci_machine.specs.Kept.{Kept}
-use Rattle.ci_machine.specs.Lookups.{job_at}
-use Rattle.ci_machine.specs.Ranges.{rows_with}
-use Rattle.ci_machine.specs.Statuses.{jobs_of, row_for, AreBoard}
-use Rattle.ci_machine.specs.Indexes.{is_open_in, unfinished_in}
+use Rattle.ci_machine_steps.specs.Prelude.{AllowFailure, Row, Status, is_status, Pipeline, Job, BoardRow, Unfinished, Kept, job_at, rows_with, jobs_of, row_for, AreBoard}
+use Rattle.ci_machine_steps.specs.Prelude.{is_open_in, unfinished_in}
 use Rattle.ci_machine.proofs.Keyed.{Has, has_filter, filter_has, has_map, map_has, find_has, has_find, has_from_contains, contains_from_has}
 use Rattle.ci_machine.proofs.Tests.{any_has, has_any}
 use Rattle.ci_machine_steps.proofs.Sound.{Sound, sound}
 use Rattle.ci_machine_statuses.proofs.RowPuts.{its_row}
 use Rattle.ci_machine_statuses.proofs.Joint.{board_rises}
-use Rattle.ci_machine_statuses.proofs.Pages.{its_row_found}
-use Rattle.ci_server_lookups.specs.Keeps.{IsKept}
-use Rattle.ci_server_lookups.specs.Unfinished.{keeps_open, opens_with, opens, has_number, AreOpen}
+use Rattle.ci_machine_statuses.proofs.PendingRows.{its_row_found}
+use Rattle.ci_server_lookups.specs.Prelude.{IsKept, keeps_open, opens_with, opens, has_number, AreOpen}
 use Rattle.ci_server_lookups.proofs.Opens.{opened, opener}
 
 -- one of two tests passes where the other does
@@ -36,15 +22,15 @@ same_test false true f g = g refl
 same_test false false f g = refl
 
 -- a job that keeps its pipeline open is running, pending or manual
-which : (allow : AllowFailure) (s : Status) → keeps_open allow s ≡ true → (is_status s status.Running ≡ true) ⊎ ((is_status s status.Pending ≡ true) ⊎ (is_status s status.Manual ≡ true))
-which allow status.Running e = inl refl
-which allow status.Pending e = inr (inl refl)
-which allow status.Manual e = inr (inr refl)
-which allow status.Created e = absurd (false≢true e)
-which allow status.Success e = absurd (false≢true e)
-which allow status.Failed e = absurd (false≢true e)
-which allow status.Canceled e = absurd (false≢true e)
-which allow status.Skipped e = absurd (false≢true e)
+which : (allow : AllowFailure) (s : Status) → keeps_open allow s ≡ true → (is_status s Status.Running ≡ true) ⊎ ((is_status s Status.Pending ≡ true) ⊎ (is_status s Status.Manual ≡ true))
+which allow Status.Running e = inl refl
+which allow Status.Pending e = inr (inl refl)
+which allow Status.Manual e = inr (inr refl)
+which allow Status.Created e = absurd (false≢true e)
+which allow Status.Success e = absurd (false≢true e)
+which allow Status.Failed e = absurd (false≢true e)
+which allow Status.Canceled e = absurd (false≢true e)
+which allow Status.Skipped e = absurd (false≢true e)
 
 by_job : (n : ℕ) (s : Status) (o : Option Job) → opens_with n s o ≡ true → (j : Job) × (o ≡ Some j) × (keeps_open j.options.part.allow_failure s ≡ true) × (j.pipeline ≡ n)
 by_job n s None e = absurd (false≢true e)
@@ -53,7 +39,7 @@ by_job n s (Some j) e = let w = and_parts (keeps_open j.options.part.allow_failu
 -- by one of three lists of rows
 abbrev pub opened_by_rows : Kept → ℕ → Bool
 opened_by_rows k n =
-    list_any (opens k.state n) (rows_with status.Running k.board) || list_any (opens k.state n) (rows_with status.Pending k.board) || list_any (opens k.state n) (rows_with status.Manual k.board)
+    list_any (opens k.state n) (rows_with Status.Running k.board) || list_any (opens k.state n) (rows_with Status.Pending k.board) || list_any (opens k.state n) (rows_with Status.Manual k.board)
 
 module _ (k : Kept) (sound : Sound k.state) (are : AreBoard k.state k.board) (unfinished : k.unfinished ≡ unfinished_in k.state k.board) where
   abbrev of_pipeline : ℕ → Unfinished → Bool
@@ -80,7 +66,7 @@ module _ (k : Kept) (sound : Sound k.state) (are : AreBoard k.state k.board) (un
       row_opens n w.0 (has_filter (λ (r : BoardRow). is_status r.row.status s) w.0 k.board w.1.0).0 w.1.1
 
   -- a pipeline that isn't finished has such a row
-  has_row : (n : ℕ) → list_any (of_pipeline n) k.unfinished ≡ true → (r : BoardRow) × Has r k.board × (opens k.state n r ≡ true) × ((is_status r.row.status status.Running ≡ true) ⊎ ((is_status r.row.status status.Pending ≡ true) ⊎ (is_status r.row.status status.Manual ≡ true)))
+  has_row : (n : ℕ) → list_any (of_pipeline n) k.unfinished ≡ true → (r : BoardRow) × Has r k.board × (opens k.state n r ≡ true) × ((is_status r.row.status Status.Running ≡ true) ⊎ ((is_status r.row.status Status.Pending ≡ true) ⊎ (is_status r.row.status Status.Manual ≡ true)))
   has_row n e =
       let u = any_has (of_pipeline n) k.unfinished e in
       let m = map_has (λ (q : Pipeline). record { pipeline = q.id }) u.0 (filter (is_open_in k.state k.board) k.state.pipelines) (subst (λ (us : List Unfinished). Has u.0 us) unfinished u.1.0) in
@@ -102,20 +88,20 @@ module _ (k : Kept) (sound : Sound k.state) (are : AreBoard k.state k.board) (un
       let w = has_row n e in
       let in_list : (s : Status) → is_status w.0.row.status s ≡ true → list_any (opens k.state n) (rows_with s k.board) ≡ true
       = λ s t. has_any (opens k.state n) w.0 (rows_with s k.board) (filter_has (λ (r : BoardRow). is_status r.row.status s) w.0 k.board w.1 t) w.2 in
-      let running = list_any (opens k.state n) (rows_with status.Running k.board) in
-      let pending = list_any (opens k.state n) (rows_with status.Pending k.board) in
-      let manual = list_any (opens k.state n) (rows_with status.Manual k.board) in
-      ⊎_elim (λ t. or_left (running || pending) manual (or_left running pending (in_list status.Running t)))
-      (λ v. ⊎_elim (λ t. or_left (running || pending) manual (or_right running pending (in_list status.Pending t))) (λ t. or_right (running || pending) manual (in_list status.Manual t)) v)
+      let running = list_any (opens k.state n) (rows_with Status.Running k.board) in
+      let pending = list_any (opens k.state n) (rows_with Status.Pending k.board) in
+      let manual = list_any (opens k.state n) (rows_with Status.Manual k.board) in
+      ⊎_elim (λ t. or_left (running || pending) manual (or_left running pending (in_list Status.Running t)))
+      (λ v. ⊎_elim (λ t. or_left (running || pending) manual (or_right running pending (in_list Status.Pending t))) (λ t. or_right (running || pending) manual (in_list Status.Manual t)) v)
       w.3
 
   pub by_rows : (n : ℕ) → opened_by_rows k n ≡ list_any (of_pipeline n) k.unfinished
   by_rows n =
-      let running = list_any (opens k.state n) (rows_with status.Running k.board) in
-      let pending = list_any (opens k.state n) (rows_with status.Pending k.board) in
-      let manual = list_any (opens k.state n) (rows_with status.Manual k.board) in
+      let running = list_any (opens k.state n) (rows_with Status.Running k.board) in
+      let pending = list_any (opens k.state n) (rows_with Status.Pending k.board) in
+      let manual = list_any (opens k.state n) (rows_with Status.Manual k.board) in
       same_test (opened_by_rows k n) (list_any (of_pipeline n) k.unfinished)
-      (λ e. ⊎_elim (λ v. ⊎_elim (rows_open n status.Running) (rows_open n status.Pending) (or_cases running pending v)) (rows_open n status.Manual) (or_cases (running || pending) manual e))
+      (λ e. ⊎_elim (λ v. ⊎_elim (rows_open n Status.Running) (rows_open n Status.Pending) (or_cases running pending v)) (rows_open n Status.Manual) (or_cases (running || pending) manual e))
       (open_has_rows n)
 
 pub are_open : (k : Kept) (numbers : List ℕ) → IsKept k → ((n : ℕ) → has_number n numbers ≡ opened_by_rows k n) → AreOpen k numbers

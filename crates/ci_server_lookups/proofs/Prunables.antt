@@ -1,17 +1,13 @@
 -- The finished pipeline of least number that is old enough is the first such one of those that were looked up.
-use Rattle.std.specs.Prelude.{◌≡◌, ℕ, zero, suc, ◌<◌, ◌==◌, ◌&&◌, nat_lt, not, cond, Bool, true, false, List, [], ◌∷◌, length, filter, find, take, Contains, Option, Some, None, is_some}
+use Rattle.std.proofs.Common.{◌≡◌, ℕ, zero, suc, ◌<◌, ◌==◌, ◌&&◌, nat_lt, not, cond, Bool, true, false, List, [], ◌∷◌, length, filter, find, take, Contains, Option, Some, None}
+use Rattle.std.proofs.Common.{is_some, refl, sym, ap, subst, ◌∙◌, inl, inr, ⊎_elim, eqb-true, eq-eqb}
 use Rattle.std.specs.List.{list_any}
-use Rattle.std.proofs.Common.{refl, sym, ap, subst, ◌∙◌, inl, inr, ⊎_elim, eqb-true, eq-eqb}
 use Rattle.std.proofs.lemmas.Bool.{cond_both, cond-true, cond-false, both_ways, cases_Bool, false≢true}
-use Rattle.ci_machine.specs.declared.records.Pipeline.{Pipeline}
-use Rattle.ci_machine.specs.declared.records.Unfinished.{Unfinished}
-use Rattle.ci_machine.specs.Indexes.{is_open_in, unfinished_in}
-use Rattle.ci_machine.specs.Kept.{Kept}
+use Rattle.ci_machine_steps.specs.Prelude.{Pipeline, Unfinished, is_open_in, unfinished_in, Kept, prunable_in}
 use Rattle.ci_machine.proofs.Keyed.{Has, Rising, one_at, has_filter, filter_has, has_from_all, has_from_contains}
 use Rattle.ci_machine.proofs.Tests.{any_mapped, any_has, has_any}
-use Rattle.ci_machine_steps.specs.Prunes.{prunable_in}
-use Rattle.ci_store.specs.Made.{made_before, AreSome}
-use Rattle.ci_server_lookups.specs.Unfinished.{AreOpen}
+use Rattle.ci_store.specs.Prelude.{made_before, AreSome}
+use Rattle.ci_server_lookups.specs.Prelude.{AreOpen}
 
 -- ---- lists
 

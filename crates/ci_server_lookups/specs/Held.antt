@@ -1,14 +1,7 @@
 -- What is looked up of the resource groups that are held.
 use Rattle.std.specs.Prelude.{◌≡◌, ℕ, Bool, true, false, not, List, [], ◌∷◌, filter, if◌then◌else◌, All, Option, Some, None, option_to_list}
 use Rattle.std.specs.List.{list_any}
-use Rattle.ci_machine.specs.declared.records.Claim.{Claim}
-use Rattle.ci_machine.specs.declared.records.Holder.{Holder}
-use Rattle.ci_machine.specs.declared.records.Job.{Job}
-use Rattle.ci_machine.specs.Eligible.{holds, is_free}
-use Rattle.ci_machine.specs.Groups.{Groups, order_of, is_behind}
-use Rattle.ci_machine.specs.declared.change.IndexChange.{IndexChange}
-use Rattle.ci_machine.specs.declared.change.IndexChange.TheVariants.{Free}
-use Rattle.ci_machine.specs.Holders.{holder_at}
+use Rattle.ci_machine_steps.specs.Prelude.{Claim, Holder, Job, holds, is_free, Groups, order_of, is_behind, IndexChange, Free, holder_at}
 
 -- none of these holds this resource group, if it is one, of the project
 abbrev pub is_unheld : List Holder → ℕ → Option (List ℕ) → Bool

@@ -1,8 +1,5 @@
 -- What a store keeps where the machine has written it.
-use Rattle.ci_machine.specs.Kept.{Kept}
-use Rattle.ci_machine_steps.specs.Sound.{IsSound}
-use Rattle.ci_machine.specs.Statuses.{AreBoard}
-use Rattle.ci_machine.specs.Indexes.{AreIndexes}
+use Rattle.ci_machine_steps.specs.Prelude.{Kept, IsSound, AreBoard, AreIndexes}
 
 -- what is kept is a state that the machine may come to, with what is beside it
 pub record IsKept (k : Kept) : Type 0 where

@@ -6,3 +6,4 @@ pub mod Search
 pub mod Sheets
 pub mod Unfinished
 pub mod Turns
+pub mod Prelude

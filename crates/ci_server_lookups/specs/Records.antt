@@ -1,13 +1,9 @@
 -- A pipeline with its records, as they are looked up.
 use Rattle.std.specs.Prelude.{◌≡◌, ℕ, Some}
-use Rattle.ci_machine.specs.Kept.{Kept}
-use Rattle.ci_machine.specs.Holders.{holders}
-use Rattle.ci_machine_steps.specs.Step.{pipeline_at}
+use Rattle.ci_machine_steps.specs.Prelude.{Kept, holders, pipeline_at, claims_ahead, groups_in}
 use Rattle.ci_machine_statuses.specs.Lookups.{AreRecords}
 use Rattle.ci_server_lookups.specs.declared.records.Records.{Records}
 use Rattle.ci_server_lookups.specs.declared.records.Whole.{Whole}
-use Rattle.ci_machine.specs.Groups.{claims_ahead}
-use Rattle.ci_machine.specs.Waiting.{groups_in}
 use Rattle.ci_server_lookups.specs.Held.{HoldAlike, FreeAlike}
 
 -- what was looked up are the records of a pipeline

@@ -1,8 +1,6 @@
 -- The records of a pipeline, as one sheet, and when that is right.
 use Rattle.std.specs.Prelude.{◌≡◌, true, All, IfSome}
-use Rattle.ci_machine.specs.Kept.{Kept}
-use Rattle.ci_machine.specs.Ranges.{is_within, needs_within, attempts_within, rows_within}
-use Rattle.ci_machine.specs.Statuses.{jobs_of}
+use Rattle.ci_machine_steps.specs.Prelude.{Kept, is_within, needs_within, attempts_within, rows_within, jobs_of}
 use Rattle.ci_machine_statuses.specs.Boards.{IsGraphOf}
 use Rattle.ci_server_lookups.specs.declared.sheet.Sheet.{Sheet}
 

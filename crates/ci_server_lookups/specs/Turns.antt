@@ -1,9 +1,6 @@
 -- Whose turn it is in a resource group with an order.
 use Rattle.std.specs.Prelude.{◌≡◌, ℕ, Bool, false, nat_lt, List, Option, Some, None}
-use Rattle.ci_machine.specs.declared.records.GroupOrder.{GroupOrder}
-use Rattle.ci_machine.specs.declared.records.GroupOrder.TheVariants.{OldestFirst, NewestReadyFirst}
-use Rattle.ci_machine.specs.declared.records.WaitingJob.{WaitingJob}
-use Rattle.ci_machine.specs.Groups.{is_behind}
+use Rattle.ci_machine_steps.specs.Prelude.{GroupOrder, OldestFirst, NewestReadyFirst, WaitingJob, is_behind}
 
 -- where it is the turn of a pipeline, the jobs of this one must wait
 abbrev pub is_past : GroupOrder → Option ℕ → ℕ → Bool

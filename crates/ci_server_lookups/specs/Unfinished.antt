@@ -1,15 +1,7 @@
 -- The pipelines that aren't finished, as they are looked up by the rows of their jobs' statuses.
 use Rattle.std.specs.Prelude.{◌≡◌, ℕ, Bool, true, false, ◌==◌, ◌&&◌, not, List, Option, Some, None}
 use Rattle.std.specs.List.{list_any}
-use Rattle.ci_values.specs.declared.when.AllowFailure.{AllowFailure}
-use Rattle.ci_values.specs.declared.when.AllowFailure.TheVariants.{No, Yes, ExitCodes}
-use Rattle.ci_board.specs.declared.facts.Status.{Status}
-use Rattle.ci_board.specs.declared.facts.Status.TheVariants as status
-use Rattle.ci_machine.specs.declared.records.Job.{Job}
-use Rattle.ci_machine.specs.declared.records.BoardRow.{BoardRow}
-use Rattle.ci_machine.specs.State.{State}
-use Rattle.ci_machine.specs.Kept.{Kept}
-use Rattle.ci_machine.specs.Lookups.{job_at}
+use Rattle.ci_machine_steps.specs.Prelude.{AllowFailure, No, Yes, ExitCodes, Status, Job, BoardRow, State, Kept, job_at}
 
 -- a manual job may be left out: it is allowed to fail, whatever its exit code
 abbrev pub may_be_left_out : AllowFailure → Bool
@@ -19,14 +11,14 @@ may_be_left_out (ExitCodes codes) = false
 
 -- a pipeline isn't finished while it has a job with this status
 abbrev pub keeps_open : AllowFailure → Status → Bool
-keeps_open allow status.Pending = true
-keeps_open allow status.Running = true
-keeps_open allow status.Manual = not (may_be_left_out allow)
-keeps_open allow status.Created = false
-keeps_open allow status.Success = false
-keeps_open allow status.Failed = false
-keeps_open allow status.Canceled = false
-keeps_open allow status.Skipped = false
+keeps_open allow Status.Pending = true
+keeps_open allow Status.Running = true
+keeps_open allow Status.Manual = not (may_be_left_out allow)
+keeps_open allow Status.Created = false
+keeps_open allow Status.Success = false
+keeps_open allow Status.Failed = false
+keeps_open allow Status.Canceled = false
+keeps_open allow Status.Skipped = false
 
 -- the job is one of pipeline n, and with this status keeps it from being finished
 abbrev pub opens_with : ℕ → Status → Option Job → Bool

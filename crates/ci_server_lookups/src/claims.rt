@@ -1,10 +1,8 @@
 //! For which resource groups the jobs of a pipeline must wait, from what the store holds.
 
 ghost use Rattle.std.specs.Prelude.{◌≡◌, ◌++◌, map, Some, IfOk, OnOk};
-ghost use Rattle.ci_machine.specs.Eligible.{is_free};
-ghost use Rattle.ci_machine.specs.Groups.{is_behind, order_of, held_claim, claims_ahead};
-ghost use Rattle.ci_machine.specs.Waiting.{waiting, groups_in, claims_in};
-ghost use Rattle.ci_store.specs.Store.{LoadsBy};
+ghost use Rattle.ci_machine_steps.specs.Prelude.{is_free, is_behind, order_of, held_claim, claims_ahead, waiting, groups_in, claims_in};
+ghost use Rattle.ci_store.specs.Prelude.{LoadsBy};
 ghost use Rattle.ci_server_lookups.specs.Held.{claim_if, ahead_for, FreeAlike};
 ghost use Rattle.ci_server_lookups.specs.Keeps.{IsKept};
 

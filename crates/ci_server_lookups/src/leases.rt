@@ -2,7 +2,7 @@
 
 ghost use Rattle.std.specs.Prelude.{◌≡◌, Some, option_map};
 ghost use Rattle.ci_machine_steps.specs.Step as step;
-ghost use Rattle.ci_store.specs.Store.{LoadsBy};
+ghost use Rattle.ci_store.specs.Prelude.{LoadsBy};
 
 use ci_machine::lease::Lease;
 use ci_machine::records::Attempt;

@@ -2,8 +2,8 @@
 
 ghost use Rattle.std.specs.Prelude.{◌≡◌, ◌==◌, ◌&&◌, not, nat_lt, length, find, is_some};
 ghost use Rattle.std.specs.List.{list_any};
-ghost use Rattle.ci_machine_steps.specs.Prunes.{prunable_in};
-ghost use Rattle.ci_store.specs.Store.{LoadsBy};
+ghost use Rattle.ci_machine_steps.specs.Prelude.{prunable_in};
+ghost use Rattle.ci_store.specs.Prelude.{LoadsBy};
 ghost use Rattle.ci_server_lookups.specs.Keeps.{IsKept, HoldsKept};
 
 use crate::searches::Searches;

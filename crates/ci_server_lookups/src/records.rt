@@ -1,9 +1,9 @@
 //! A pipeline's jobs with what a board takes of them, from what the store holds.
 
 ghost use Rattle.std.specs.Prelude.{◌≡◌, ◌<◌};
-ghost use Rattle.ci_machine_steps.specs.Sound.{IsSound};
+ghost use Rattle.ci_machine_steps.specs.Prelude.{IsSound};
 ghost use Rattle.ci_machine_statuses.specs.Boards.{IsItsGraph};
-ghost use Rattle.ci_store.specs.Store.{LoadsBy};
+ghost use Rattle.ci_store.specs.Prelude.{LoadsBy};
 ghost use Rattle.ci_server_lookups.specs.Records.{AreOf, IsWhole};
 ghost use Rattle.ci_server_lookups.specs.Keeps.{IsKept};
 

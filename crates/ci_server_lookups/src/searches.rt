@@ -1,11 +1,9 @@
 //! What a runner's request and a sweep look for, as a store finds it, and the records of a pipeline, as a store lends them.
 
 ghost use Rattle.std.specs.Prelude.{◌≡◌};
-ghost use Rattle.ci_machine.specs.Leases.{first_due};
-ghost use Rattle.ci_machine_steps.specs.Step.{leases, redundant_in};
-ghost use Rattle.ci_store.specs.Store.{LoadsBy};
+ghost use Rattle.ci_machine_steps.specs.Prelude.{first_due, leases, redundant_in, Kept};
+ghost use Rattle.ci_store.specs.Prelude.{LoadsBy};
 ghost use Rattle.ci_server_lookups.specs.Keeps.{IsKept, HoldsKept};
-ghost use Rattle.ci_machine.specs.Kept.{Kept};
 ghost use Rattle.ci_server_lookups.specs.Search.{IsOffered};
 ghost use Rattle.ci_server_lookups.specs.Sheets.{IsRight};
 ghost use Rattle.ci_server_lookups.specs.Unfinished.{AreOpen};

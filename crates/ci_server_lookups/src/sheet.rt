@@ -2,8 +2,8 @@
 
 ghost use Rattle.std.specs.Prelude.{◌≡◌, ◌==◌, true, All, IfSome};
 ghost use Rattle.std.specs.List.{list_all, list_any};
-ghost use Rattle.ci_machine.specs.Ranges.{is_within};
-ghost use Rattle.ci_store.specs.Store.{LoadsBy};
+ghost use Rattle.ci_machine_steps.specs.Prelude.{is_within};
+ghost use Rattle.ci_store.specs.Prelude.{LoadsBy};
 ghost use Rattle.ci_server_lookups.specs.Sheets.{IsRight};
 
 use ci_graph::graph::Net;

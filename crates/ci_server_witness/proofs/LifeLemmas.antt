@@ -1,8 +1,7 @@
 -- A life with one operation more.
-use Rattle.std.specs.Prelude.{ℕ, true, false, map, filter, if◌then◌else◌, flat_map, Option, Some, None, codes, option_and_then, Result, Ok, Err, IfErr}
+use Rattle.std.proofs.Common.{ℕ, true, false, map, filter, if◌then◌else◌, flat_map, Option, Some, None, codes, option_and_then, Result, Ok, Err, IfErr, IsErrAnd, ◌≡◌, ◌⊎◌, inl}
+use Rattle.std.proofs.Common.{inr, List, [], ◌∷◌, refl, sym, ap, subst, ◌∙◌, arith}
 use Rattle.std.specs.Str.Lines.{lines}
-use Rattle.std.specs.Result.{IsErrAnd}
-use Rattle.std.proofs.Common.{◌≡◌, ◌⊎◌, inl, inr, List, [], ◌∷◌, refl, sym, ap, subst, ◌∙◌, arith}
 use Rattle.std.specs.Fmt.{digits}
 use Rattle.hex.proofs.OnLiterals.{hex_on_literals}
 use Rattle.sqlite.specs.Held.{Held}
@@ -10,63 +9,20 @@ use Rattle.ci_memory.specs.declared.remembering.Remembering.{Remembering}
 use Rattle.sqlite.specs.Steps.{over_memory}
 use Rattle.sqlite.proofs.Callers.{memory_is_clean}
 use Rattle.sqlite_trees.specs.declared.memory.MemStore.{MemStore}
-use Rattle.ci_values.specs.declared.attempts.AttemptState.TheVariants.{Live}
-use Rattle.ci_board.specs.declared.facts.Status.{Status}
-use Rattle.ci_board.specs.declared.facts.Status.TheVariants.{Pending}
-use Rattle.ci_board.specs.Effects.{is_status}
-use Rattle.ci_board.specs.Rows.{no_row}
-use Rattle.ci_yaml_lines.specs.declared.code.Code.{Code}
-use Rattle.ci_yaml_lines.specs.Tree.{Value, null}
-use Rattle.ci_yaml_lines.specs.Entry.{Entry}
-use Rattle.ci_yaml_lines.specs.Line.{Line}
-use Rattle.ci_yaml.specs.Document.{Ending, Parses, HasTree, IsFault}
-use Rattle.ci_yaml.specs.Node.{IsDocument}
-use Rattle.ci_yaml.specs.Reading.{finished}
-use Rattle.ci_yaml.specs.ReadLines.{Reader, read_lines, beginning}
-use Rattle.ci_expr.specs.declared.fault.ExprCode.TheVariants.{X2}
-use Rattle.ci_expr.specs.Computed.{expression_of}
-use Rattle.ci_config.specs.Config.{Config}
-use Rattle.ci_config.specs.Expressions.{built}
-use Rattle.ci_config.specs.Fault.{Fault}
-use Rattle.ci_config.specs.Laws.{LacksPatterns, HasNoPattern}
-use Rattle.ci_config.specs.Meaning.{meaning, Means}
-use Rattle.ci_graph.specs.Pairs.{IsWalk, HasCycle}
+use Rattle.ci_machine_steps.specs.Prelude.{Live, Status, Pending, is_status, no_row, Detail, set_file, IsRead, configures, misconfigures, lacks_tree, Layout, IsLaidOut, misread}
+use Rattle.ci_machine_steps.specs.Prelude.{unplanned, pipeline_created, BoardRow, Job, Request, AddProject, AddRunner, SetFile, CreatePipeline, AskJob, Event, Answer, M16, M17}
+use Rattle.ci_machine_steps.specs.Prelude.{Reply, refusal, Plan, token_of, ask_job, State, empty, applied, row_for, rows_of, AreBoard, runner_with, queued, offered_variables}
+use Rattle.ci_machine_steps.specs.Prelude.{chosen, Claim, waiting_claim, is_first, waits_as, groups_with, claims_in, IsReached}
+use Rattle.ci_config.specs.Prelude.{Code, Value, null, Entry, Line}
+use Rattle.ci_yaml.specs.Prelude.{Ending, Parses, HasTree, IsFault, IsDocument, finished, Reader, read_lines, beginning}
+use Rattle.ci_graph_layout.specs.Prelude.{X2, expression_of, Config, built, Fault, LacksPatterns, HasNoPattern, meaning, Means, Plans, faulty, cyclic}
+use Rattle.ci_machine.specs.Prelude.{IsWalk, HasCycle}
 use Rattle.ci_graph_layout.specs.Fault as layout
-use Rattle.ci_graph_layout.specs.Fault.{Plans, faulty, cyclic}
 use Rattle.ci_graph_layout.specs.declared.fault.GraphCode.{GraphCode}
-use Rattle.ci_machine.specs.declared.reply.Detail.{Detail}
-use Rattle.ci_machine_steps.specs.Files.{set_file, IsRead, configures, misconfigures, lacks_tree}
-use Rattle.ci_machine_steps.specs.Pipelines.{Layout, IsLaidOut, misread, unplanned, pipeline_created}
 use Rattle.ci_machine_steps.specs.Pipelines as pipelines
-use Rattle.ci_machine.specs.declared.records.BoardRow.{BoardRow}
-use Rattle.ci_machine.specs.declared.records.Job.{Job}
-use Rattle.ci_machine.specs.declared.request.Request.{Request}
-use Rattle.ci_machine.specs.declared.request.Request.TheVariants.{AddProject, AddRunner, SetFile, CreatePipeline, AskJob}
-use Rattle.ci_machine.specs.declared.request.Event.TheVariants as event
-use Rattle.ci_machine.specs.declared.reply.Answer.{Answer}
-use Rattle.ci_machine.specs.declared.reply.Answer.TheVariants as answer
-use Rattle.ci_machine.specs.declared.reply.Code.TheVariants.{M16, M17}
-use Rattle.ci_machine.specs.declared.reply.Reply.{Reply}
-use Rattle.ci_machine.specs.Reply.{refusal}
-use Rattle.ci_machine_steps.specs.Plans.{Plan, token_of}
-use Rattle.ci_machine_steps.specs.Grants.{ask_job}
-use Rattle.ci_machine.specs.State.{State, empty, applied}
-use Rattle.ci_machine.specs.Statuses.{row_for, rows_of, AreBoard}
-use Rattle.ci_machine_steps.specs.Step.{runner_with, queued, offered_variables}
-use Rattle.ci_machine.specs.Eligible.{chosen}
-use Rattle.ci_machine.specs.declared.records.Claim.{Claim}
-use Rattle.ci_machine.specs.Groups.{waiting_claim, is_first}
-use Rattle.ci_machine.specs.Waiting.{waits_as, groups_with, claims_in}
-use Rattle.ci_machine_steps.specs.History.{IsReached}
 use Rattle.ci_machine_laws.specs.Examples.{seed, token, pipeline, new_runner, with_project, with_runner, project_added, runner_added, laid_by, job}
-use Rattle.ci_store_sqlite.specs.declared.tables.OpenFault.{OpenFault}
-use Rattle.ci_store_sqlite.specs.declared.tables.OpenFault.TheVariants.{O1, O2, O3, Memory}
-use Rattle.ci_store_sqlite.specs.Open.{IsFailure}
-use Rattle.ci_server.specs.Holding.{HoldsIn, LeavesIn}
-use Rattle.ci_server.specs.Handling.{Handled, answered, no_memory, look_failed, commit_failed}
-use Rattle.ci_server.specs.Server.{Handles, Creates, Opens}
-use Rattle.ci_server.specs.Lifetime.{Operation, opened}
-use Rattle.ci_server_witness.specs.declared.life.Stop.TheVariants as stop
+use Rattle.ci_server.specs.Prelude.{HoldsIn, LeavesIn, Handled, answered, no_memory, look_failed, commit_failed, Handles, Creates, Opens, Operation, opened}
+use Rattle.ci_server_witness.specs.declared.life.Stop.{Stop}
 use Rattle.ci_server_witness.specs.Life.{file_text, new_file, owner, configured, file_added, with_file, given, made, pipeline_made, with_pipeline, granted, with_attempt, at_1000, planned, InMemory, IsOpenAt, IsPlanned, IsCause, IsLeased}
 
 -- ---- the server is made
@@ -80,22 +36,16 @@ created_at conn new made = record {
   holds = made.holds (memory_is_clean new.store.store);
 }
 
-pub uncreated : (fault : OpenFault) → (fault ≡ O1 → ⊥) → (fault ≡ O2 → ⊥) → IsFailure fault
-uncreated O1 listed unversioned = absurd (listed refl)
-uncreated O2 listed unversioned = absurd (unversioned refl)
-uncreated O3 listed unversioned = tt
-uncreated Memory listed unversioned = tt
-
 -- ---- a request is handled
 
 abbrev reply_in : Answer → Reply
-reply_in (answer.Reply reply) = reply
-reply_in (answer.Swept swept) = refusal M16
+reply_in (Answer.Reply reply) = reply
+reply_in (Answer.Swept swept) = refusal M16
 
 module _ (ops : List Operation) (s : State) (request : Request) (plan : Plan) (old new : InMemory) (reply : Reply) (was : IsOpenAt ops s old) (is : IsPlanned s request plan)
-    (handled : Handles over_memory old (at_1000 request) new (answer.Reply reply)) where
+    (handled : Handles over_memory old (at_1000 request) new (Answer.Reply reply)) where
   abbrev Ended : Type 0
-  Ended = Handled (λ (h : Remembering (Held MemStore)) t. HoldsIn over_memory t h) (λ (h : Remembering (Held MemStore)) t u. LeavesIn over_memory t u h) (at_1000 request) s new.store new.closed (answer.Reply reply)
+  Ended = Handled (λ (h : Remembering (Held MemStore)) t. HoldsIn over_memory t h) (λ (h : Remembering (Held MemStore)) t u. LeavesIn over_memory t u h) (at_1000 request) s new.store new.closed (Answer.Reply reply)
 
   ended : Ended
   ended = handled.while_open was.is_open (memory_is_clean new.store.store) s was.reached was.holds
@@ -105,10 +55,10 @@ module _ (ops : List Operation) (s : State) (request : Request) (plan : Plan) (o
       let same : (reply, step.changes) ≡ plan = is.only step.before step.are_before (reply, step.changes) step.happens in
       let to : t ≡ applied plan.1 s = step.state ∙ ap (λ (p : Plan). applied p.1 s) same in
       record {
-        came = (old, was.came, subst (λ (p : Plan). Handles over_memory old (at_1000 request) new (answer.Reply p.0)) same handled);
+        came = (old, was.came, subst (λ (p : Plan). Handles over_memory old (at_1000 request) new (Answer.Reply p.0)) same handled);
         honest = memory_is_clean new.store.store;
         is_open = is_open;
-        reached = subst IsReached to ((record { before = s; event = event.Request request; now = 1000; seed = seed; answer = answer.Reply reply }) ∷ was.reached.0, (was.reached.1, step));
+        reached = subst IsReached to ((record { before = s; event = Event.Request request; now = 1000; seed = seed; answer = Answer.Reply reply }) ∷ was.reached.0, (was.reached.1, step));
         holds = subst (λ (u : State). HoldsIn over_memory u new.store) to held;
       }
   goes_on (no_memory refuses held is_open) made = let same : reply ≡ refusal M16 = ap reply_in refuses in absurd (cc)
@@ -126,7 +76,7 @@ module _ (ops : List Operation) (s : State) (request : Request) (plan : Plan) (o
   pub made_at : reply.code ≡ None → IsOpenAt (planned request plan ∷ ops) (applied plan.1 s) new
   made_at = goes_on ended
 
-  pub unmade : (reply.code ≡ None → ⊥) → IsCause (stop.Refused reply)
+  pub unmade : (reply.code ≡ None → ⊥) → IsCause (Stop.Refused reply)
   unmade = stops ended
 
 -- the request is the one that was meant

@@ -1,32 +1,17 @@
 -- The states and the histories of a life that was stopped within a grant.
-use Rattle.std.specs.Prelude.{true, false, not, Option, Some, None, codes}
-use Rattle.std.proofs.Common.{◌≡◌, ◌⊎◌, inl, inr, ⊎_elim, List, [], ◌∷◌, IsTrue, refl, sym, ap, subst, ◌∙◌}
+use Rattle.std.proofs.Common.{true, false, not, Option, Some, None, codes, ◌≡◌, ◌⊎◌, inl, inr, ⊎_elim, List, [], ◌∷◌, IsTrue, refl, sym, ap, subst, ◌∙◌}
 use Rattle.std.proofs.lemmas.Bool.{false≢true}
 use Rattle.sqlite.specs.Tree.{Trees}
 use Rattle.sqlite.specs.Store.{Ghosts}
 use Rattle.sqlite.specs.Held.{Held}
 use Rattle.ci_memory.specs.declared.remembering.Remembering.{Remembering}
-use Rattle.ci_machine.specs.declared.request.Request.{Request}
-use Rattle.ci_machine.specs.declared.request.Request.TheVariants.{AddProject, AddRunner, SetFile, CreatePipeline, AskJob}
-use Rattle.ci_machine.specs.declared.request.Event.TheVariants as event
-use Rattle.ci_machine.specs.declared.reply.Answer.{Answer}
-use Rattle.ci_machine.specs.declared.reply.Answer.TheVariants as answer
-use Rattle.ci_machine.specs.declared.reply.Code.TheVariants.{M17}
-use Rattle.ci_machine.specs.Reply.{refusal, Outcome, Stepped, outcome_of, outcome_by}
-use Rattle.ci_machine_steps.specs.Plans.{Plan}
-use Rattle.ci_machine.specs.State.{State, empty, applied}
-use Rattle.ci_machine_steps.specs.Step.{Step}
-use Rattle.ci_machine_steps.specs.History.{Past, Leads}
+use Rattle.ci_machine_steps.specs.Prelude.{Request, AddProject, AddRunner, SetFile, CreatePipeline, AskJob, Event, Answer, M17, refusal, Outcome, Stepped, outcome_of, outcome_by}
+use Rattle.ci_machine_steps.specs.Prelude.{Plan, State, empty, applied, Step, Past, Leads}
 use Rattle.ci_machine_laws.specs.Examples.{seed, token, pipeline, new_runner, with_runner, with_project, project_added, runner_added}
-use Rattle.ci_store_sqlite.specs.Stands.{StandsIn}
-use Rattle.ci_store_sqlite.specs.Version1.{LeavesAny}
+use Rattle.ci_store_sqlite.specs.Prelude.{StandsIn, LeavesAny}
 use Rattle.ci_server.specs.declared.fail_stop.FailStop.{FailStop}
-use Rattle.ci_server.specs.Holding.{HoldsIn}
-use Rattle.ci_server.specs.Handling.{Call}
-use Rattle.ci_server.specs.Server.{IsHonest}
-use Rattle.ci_server.specs.Runs.{line, by_outcome}
-use Rattle.ci_server.specs.Lifetime.{Beginning, was_made, was_found, was_found_shut, earlier_of, begins_shut, Operation, ComesOf}
-use Rattle.ci_server.specs.Settled.{unanswered, IsFileOf, Histories, AreSettled, HasOneHistory}
+use Rattle.ci_server.specs.Prelude.{HoldsIn, Call, IsHonest, line, by_outcome, Beginning, was_made, was_found, was_found_shut, earlier_of, begins_shut, Operation, ComesOf}
+use Rattle.ci_server.specs.Prelude.{unanswered, IsFileOf, Histories, AreSettled, HasOneHistory}
 use Rattle.ci_server_witness.specs.Life.{new_file, file_added, with_file, pipeline_made, with_pipeline, granted, with_attempt, at_1000, planned, before_grant, IsPlanned}
 use Rattle.ci_server_witness.specs.Stopped.{until_failure, stopped_life, grant_line, IsStopped, IsSettledAs, not_granted, was_granted, NamesStoppedLife}
 use Rattle.ci_server_witness.proofs.LifeLemmas.{HasOneTree, HasNotBoth, ReadsTrees, AnswersOnce, plans_project, plans_runner, plans_file, plans_pipeline, plans_grant}
@@ -47,24 +32,24 @@ call_or None = at_1000 (AskJob token)
 call_or (Some c) = c
 
 -- an answer with a plan's changes is of one plan
-of_reply : (s t : State) (request : Request) (plan : Plan) (a : Answer) → IsPlanned s request plan → Step s (event.Request request) 1000 seed a t → (a ≡ answer.Reply plan.0) × (t ≡ applied plan.1 s)
-of_reply s t request plan (answer.Reply reply) is step =
+of_reply : (s t : State) (request : Request) (plan : Plan) (a : Answer) → IsPlanned s request plan → Step s (Event.Request request) 1000 seed a t → (a ≡ Answer.Reply plan.0) × (t ≡ applied plan.1 s)
+of_reply s t request plan (Answer.Reply reply) is step =
     let same : (reply, step.changes) ≡ plan = is.only step.before step.are_before (reply, step.changes) step.happens in
-    (ap (λ (p : Plan). answer.Reply p.0) same, step.state ∙ ap (λ (p : Plan). applied p.1 s) same)
-of_reply s t request plan (answer.Swept swept) is step = absurd step.happens
+    (ap (λ (p : Plan). Answer.Reply p.0) same, step.state ∙ ap (λ (p : Plan). applied p.1 s) same)
+of_reply s t request plan (Answer.Swept swept) is step = absurd step.happens
 
 -- each history from h on that this line leads to
 abbrev LeadsTo : List Past → State → Type 0
 LeadsTo h s = (t : State) → Leads h t → t ≡ s
 
 -- the request, answered with its plan, leads on
-leads_on : (h k : List Past) (s : State) (request : Request) (plan : Plan) → IsPlanned s request plan → LeadsTo h s → (u : State) → k ≡ line u (at_1000 request) (answer.Reply plan.0) ∷ h
+leads_on : (h k : List Past) (s : State) (request : Request) (plan : Plan) → IsPlanned s request plan → LeadsTo h s → (u : State) → k ≡ line u (at_1000 request) (Answer.Reply plan.0) ∷ h
     → LeadsTo k (applied plan.1 s)
 leads_on h k s request plan is was u same t leads =
-    let now : Leads (line u (at_1000 request) (answer.Reply plan.0) ∷ h) t = subst (λ (l : List Past). Leads l t) same leads in
+    let now : Leads (line u (at_1000 request) (Answer.Reply plan.0) ∷ h) t = subst (λ (l : List Past). Leads l t) same leads in
     let at : u ≡ s = was u now.0 in
-    let step : Step s (event.Request request) 1000 seed (answer.Reply plan.0) t = subst (λ (w : State). Step w (event.Request request) 1000 seed (answer.Reply plan.0) t) at now.1 in
-    (of_reply s t request plan (answer.Reply plan.0) is step).1
+    let step : Step s (Event.Request request) 1000 seed (Answer.Reply plan.0) t = subst (λ (w : State). Step w (Event.Request request) 1000 seed (Answer.Reply plan.0) t) at now.1 in
+    (of_reply s t request plan (Answer.Reply plan.0) is step).1
 
 -- the one unanswered call asked for the job
 one_unanswered : (began : Beginning) → begins_shut began ≡ false → unanswered began until_failure ≡ Some (at_1000 (AskJob token))
@@ -84,7 +69,7 @@ module _ {S : Type 0} (g : Ghosts S) (began : Beginning) (is_new : earlier_of be
   next_leads ops s request plan is was server came honest =
       let before = history began ops came.0 came.1 (came.2.was_honest honest) in
       let now = history began (planned request plan ∷ ops) server came honest in
-      let a = answer.Reply plan.0 in
+      let a = Answer.Reply plan.0 in
       let goes = are.call began (at_1000 request) a ops server came honest in
       let steps : outcome_of a ≡ Stepped = ap outcome_by is.taken in
       let one : (u : State) × (now ≡ line u (at_1000 request) a ∷ before)
@@ -103,7 +88,7 @@ module _ {S : Type 0} (g : Ghosts S) (began : Beginning) (is_new : earlier_of be
 
     failed_same : (server : FailStop (Remembering (Held S))) (came : ComesOf g began until_failure server) (honest : IsHonest g server.store)
         → history began until_failure server came honest ≡ history began before_grant came.0 came.1 (came.2.was_honest honest)
-    failed_same server came honest = are.call began (at_1000 (AskJob token)) (answer.Reply (refusal M17)) before_grant server came honest
+    failed_same server came honest = are.call began (at_1000 (AskJob token)) (Answer.Reply (refusal M17)) before_grant server came honest
 
     failed_leads : AllLead until_failure with_pipeline
     failed_leads server came honest = subst (λ h. LeadsTo h with_pipeline) (sym (failed_same server came honest)) (before_leads came.0 came.1 (came.2.was_honest honest))
@@ -114,8 +99,8 @@ module _ {S : Type 0} (g : Ghosts S) (began : Beginning) (is_new : earlier_of be
     is_grant h was c s a t is leads =
         let its : c ≡ at_1000 (AskJob token) = ap call_or (sym is ∙ one_unanswered began is_open) in
         let at : s ≡ with_pipeline = was s leads.0 in
-        let step : Step with_pipeline (event.Request (AskJob token)) 1000 seed a t
-        = subst (λ (w : State). Step w (event.Request (AskJob token)) 1000 seed a t) at (subst (λ (d : Call). Step s d.0 d.1 d.2 a t) its leads.1) in
+        let step : Step with_pipeline (Event.Request (AskJob token)) 1000 seed a t
+        = subst (λ (w : State). Step w (Event.Request (AskJob token)) 1000 seed a t) at (subst (λ (d : Call). Step s d.0 d.1 d.2 a t) its leads.1) in
         let of = of_reply with_pipeline t (AskJob token) granted a plans_grant step in
         ((λ i. line (at i) (its i) (of.0 i)), of.1)
 

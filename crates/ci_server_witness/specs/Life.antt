@@ -5,41 +5,16 @@ use Rattle.sqlite.specs.Held.{Held}
 use Rattle.ci_memory.specs.declared.remembering.Remembering.{Remembering}
 use Rattle.sqlite.specs.Steps.{over_memory}
 use Rattle.sqlite_trees.specs.declared.memory.MemStore.{MemStore}
-use Rattle.ci_values.specs.declared.attempts.AttemptState.TheVariants.{Live}
-use Rattle.ci_board.specs.declared.facts.Status.TheVariants.{Pending}
-use Rattle.ci_board.specs.Rows.{no_row}
-use Rattle.ci_config.specs.Config.{Config}
-use Rattle.ci_graph_layout.specs.Inclusion.{Given}
+use Rattle.ci_machine_steps.specs.Prelude.{Live, Pending, no_row, Project, Runner, Job, Attempt, BoardRow, Event, Request, NewFile, AddProject, AddRunner, SetFile, CreatePipeline}
+use Rattle.ci_machine_steps.specs.Prelude.{AskJob, Answer, M16, M17, refusal, Plan, file_set, given_by, Creation, creation, pipeline_created, State, AreBoard, Does}
+use Rattle.ci_machine_steps.specs.Prelude.{project_variables, IsReached}
+use Rattle.ci_graph_layout.specs.Prelude.{Config, Given, file}
 use Rattle.ci_graph_layout.specs.Examples as layout
-use Rattle.ci_graph_layout.specs.Examples.{file}
-use Rattle.ci_machine.specs.declared.records.Project.{Project}
-use Rattle.ci_machine.specs.declared.records.Runner.{Runner}
-use Rattle.ci_machine.specs.declared.records.Job.{Job}
-use Rattle.ci_machine.specs.declared.records.Attempt.{Attempt}
-use Rattle.ci_machine.specs.declared.records.BoardRow.{BoardRow}
-use Rattle.ci_machine.specs.declared.request.Event.TheVariants as event
-use Rattle.ci_machine.specs.declared.request.Request.{Request}
-use Rattle.ci_machine.specs.declared.request.NewFile.{NewFile}
-use Rattle.ci_machine.specs.declared.request.Request.TheVariants.{AddProject, AddRunner, SetFile, CreatePipeline, AskJob}
-use Rattle.ci_machine.specs.declared.reply.Answer.TheVariants as answer
-use Rattle.ci_machine.specs.declared.reply.Code.TheVariants.{M16, M17}
-use Rattle.ci_machine.specs.Reply.{refusal}
-use Rattle.ci_machine_steps.specs.Plans.{Plan}
-use Rattle.ci_machine_steps.specs.Files.{file_set}
-use Rattle.ci_machine_steps.specs.Pipelines.{given_by, Creation, creation, pipeline_created}
-use Rattle.ci_machine.specs.State.{State}
-use Rattle.ci_machine.specs.Statuses.{AreBoard}
-use Rattle.ci_machine_steps.specs.Step.{Does, project_variables}
-use Rattle.ci_machine_steps.specs.History.{IsReached}
 use Rattle.ci_machine_laws.specs.Examples.{seed, pipeline, token, project_added, new_runner, runner_added, with_runner, after, laid_by, asked, rows}
-use Rattle.ci_store_sqlite.specs.Open.{IsFailure}
+use Rattle.ci_store_sqlite.specs.Prelude.{IsFailure}
 use Rattle.ci_server.specs.declared.fail_stop.FailStop.{FailStop}
-use Rattle.ci_server.specs.Holding.{HoldsIn}
-use Rattle.ci_server.specs.Handling.{Call}
-use Rattle.ci_server.specs.Server.{IsHonest}
-use Rattle.ci_server.specs.Lifetime.{was_made, Operation, called, opened, ComesOf}
+use Rattle.ci_server.specs.Prelude.{HoldsIn, Call, IsHonest, was_made, Operation, called, opened, ComesOf}
 use Rattle.ci_server_witness.specs.declared.life.Stop.{Stop}
-use Rattle.ci_server_witness.specs.declared.life.Stop.TheVariants as stop
 
 -- ---- the file, and what it configures
 
@@ -88,11 +63,11 @@ with_attempt = after granted with_pipeline
 
 -- the request came at the moment 1000, with the seed of the examples
 abbrev pub at_1000 : Request → Call
-at_1000 request = (event.Request request, 1000, seed)
+at_1000 request = (Event.Request request, 1000, seed)
 
 -- the request came, and was answered with the reply of this plan
 abbrev pub planned : Request → Plan → Operation
-planned request plan = called (at_1000 request) (answer.Reply plan.0)
+planned request plan = called (at_1000 request) (Answer.Reply plan.0)
 
 -- what came before the grant, the newest first: each request has the machine's own reply
 abbrev pub before_grant : List Operation
@@ -128,9 +103,9 @@ pub record IsPlanned (s : State) (request : Request) (plan : Plan) : Type 0 wher
 
 -- Why a server doesn't come: what was called refused, and only for want of memory or since the store failed.
 abbrev pub IsCause : Stop → Type 0
-IsCause stop.Memory = Unit {0}
-IsCause (stop.Unopened fault) = IsFailure fault
-IsCause (stop.Refused reply) = (reply ≡ refusal M16) ⊎ (reply ≡ refusal M17)
+IsCause Stop.Memory = Unit {0}
+IsCause (Stop.Unopened fault) = IsFailure fault
+IsCause (Stop.Refused reply) = (reply ≡ refusal M16) ⊎ (reply ≡ refusal M17)
 
 -- The state has one runner, which has this token, one job and one attempt: the attempt is live, of that job, and was granted to that runner.
 pub record IsLeased (s : State) (token : List ℕ) : Type 0 where

@@ -4,23 +4,15 @@ use Rattle.sqlite.specs.Tree.{Trees}
 use Rattle.sqlite.specs.Store.{Ghosts}
 use Rattle.sqlite.specs.Held.{Held, state}
 use Rattle.ci_memory.specs.declared.remembering.Remembering.{Remembering}
-use Rattle.ci_machine.specs.declared.request.Request.TheVariants.{AskJob}
-use Rattle.ci_machine.specs.declared.reply.Answer.TheVariants as answer
-use Rattle.ci_machine.specs.declared.reply.Code.TheVariants.{M17}
-use Rattle.ci_machine.specs.Reply.{refusal}
-use Rattle.ci_machine_steps.specs.History.{Past}
+use Rattle.ci_machine_steps.specs.Prelude.{AskJob, Answer, M17, refusal, Past}
 use Rattle.ci_machine_laws.specs.Examples.{token}
 use Rattle.ci_server.specs.declared.fail_stop.FailStop.{FailStop}
-use Rattle.ci_server.specs.Holding.{HoldsIn, StandsFor}
-use Rattle.ci_server.specs.Server.{IsHonest}
-use Rattle.ci_server.specs.Runs.{line}
-use Rattle.ci_server.specs.Lifetime.{Beginning, Operation, called, opened, ComesOf}
-use Rattle.ci_server.specs.Settled.{IsFileOf, Histories, AreSettled}
+use Rattle.ci_server.specs.Prelude.{HoldsIn, StandsFor, IsHonest, line, Beginning, Operation, called, opened, ComesOf, IsFileOf, Histories, AreSettled}
 use Rattle.ci_server_witness.specs.Life.{granted, with_pipeline, with_attempt, at_1000, before_grant}
 
 -- the runner asked for a job, and the store failed in that call, which was answered M17
 abbrev pub until_failure : List Operation
-until_failure = called (at_1000 (AskJob token)) (answer.Reply (refusal M17)) ∷ before_grant
+until_failure = called (at_1000 (AskJob token)) (Answer.Reply (refusal M17)) ∷ before_grant
 
 -- and then the server was opened again
 abbrev pub stopped_life : List Operation
@@ -28,7 +20,7 @@ stopped_life = opened ∷ until_failure
 
 -- the line that the grant has if it took place: the machine's own reply, which nobody was given
 abbrev pub grant_line : Past
-grant_line = line with_pipeline (at_1000 (AskJob token)) (answer.Reply granted.0)
+grant_line = line with_pipeline (at_1000 (AskJob token)) (Answer.Reply granted.0)
 
 -- Before it is opened again: it is closed, and each file that a stop may leave is of the state before the grant, or of the one after it.
 pub record IsStopped {S : Type 0} (g : Ghosts S) (server : FailStop (Remembering (Held S))) : Type 0 where

@@ -1,10 +1,9 @@
 //! A server that is made, grants a job, is closed and is opened again.
 
 ghost use Rattle.std.specs.Prelude.{[], ◌∷◌, List, IfOk, IfErr};
-ghost use Rattle.ci_machine_steps.specs.Plans.{Plan};
-ghost use Rattle.ci_machine.specs.State.{State, empty, applied};
+ghost use Rattle.ci_machine_steps.specs.Prelude.{Plan, State, empty, applied};
 ghost use Rattle.ci_machine_laws.specs.Examples.{token};
-ghost use Rattle.ci_server.specs.Lifetime.{Operation, opened};
+ghost use Rattle.ci_server.specs.Prelude.{Operation, opened};
 ghost use Rattle.ci_server_witness.specs.Life.{IsOpenAt, IsPlanned, IsCause, IsLeased, planned, until_grant, with_attempt, life};
 
 use crate::requests::{file, job_request, pipeline, project, runner};

@@ -1,7 +1,7 @@
 //! The requests of the witness: those of the worked examples.
 
 ghost use Rattle.std.specs.Prelude.{◌≡◌, IfOk, codes};
-ghost use Rattle.ci_machine.specs.declared.request.Request.TheVariants.{AddProject, AddRunner, SetFile, CreatePipeline, AskJob};
+ghost use Rattle.ci_machine_steps.specs.Prelude.{AddProject, AddRunner, SetFile, CreatePipeline, AskJob};
 ghost use Rattle.ci_machine_laws.specs.Examples.{pipeline, token, new_runner};
 ghost use Rattle.ci_server_witness.specs.Life.{new_file};
 

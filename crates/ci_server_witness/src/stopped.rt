@@ -1,7 +1,7 @@
 //! A server that is stopped within a commit, and opened again.
 
 ghost use Rattle.std.specs.Prelude.{[]};
-ghost use Rattle.ci_server.specs.Lifetime.{was_made, was_found};
+ghost use Rattle.ci_server.specs.Prelude.{was_made, was_found};
 ghost use Rattle.ci_server_witness.specs.Stopped.{NamesStoppedLife};
 
 use ci_config::laws::answers_once_without_patterns;

@@ -4,23 +4,15 @@ use Rattle.std.specs.Ordering.{is_ne}
 use Rattle.std.specs.List.{list_any}
 use Rattle.std.proofs.lemmas.Bool.{and_parts, or_parts, not-true}
 use Rattle.std.proofs.lemmas.List.Sorted.{list_any-IsPermutation}
-use Rattle.sqlite.specs.declared.types.Value.TheVariants.{Int}
-use Rattle.sqlite_value.specs.Order.{Row, value_cmp}
+use Rattle.ci_store.specs.Prelude.{Int, value_cmp, is_true, from_truth, Index, Unique, equal, differ, agree, guards, clashes, Table, Schema, Trees, IsSound, IsShaped, Has}
+use Rattle.ci_store.specs.Prelude.{are_fresh, have_rowids, is_taken}
+use Rattle.sqlite_value.specs.Order.{Row}
 use Rattle.sqlite.specs.Collation.TheVariants.{Binary}
 use Rattle.sqlite.specs.Ops.{binary}
-use Rattle.sqlite_sql.specs.Ops.{is_true, from_truth}
-use Rattle.sqlite_schema.specs.declared.schema.Index.{Index}
-use Rattle.sqlite_schema.specs.declared.schema.Constraint.TheVariants.{Unique}
-use Rattle.sqlite_schema.specs.Rules.{equal, differ, agree, guards, clashes}
-use Rattle.sqlite.specs.Table.{Table}
-use Rattle.sqlite.specs.Schema.{Schema}
-use Rattle.sqlite.specs.Tree.{Trees, put_row}
-use Rattle.sqlite_catalog.specs.Listing.{IsSound}
+use Rattle.sqlite.specs.Tree.{put_row}
 use Rattle.sqlite_trees.specs.Tree.{rowid}
-use Rattle.sqlite_trees.specs.View.{IsShaped}
 use Rattle.sqlite_trees.specs.declared.store.Shape.TheVariants as shape
-use Rattle.sqlite_rules.specs.Lists.{Has}
-use Rattle.sqlite_rules.specs.Edit.{are_fresh, have_rowids, is_taken, id_in}
+use Rattle.sqlite_rules.specs.Edit.{id_in}
 use Rattle.sqlite_rules.proofs.ListLemmas.{all_has, all_from, test_has}
 use Rattle.sqlite_rules.proofs.TableLemmas.{int_is, has_put}
 use Rattle.ci_store.proofs.Rows.{put_one}

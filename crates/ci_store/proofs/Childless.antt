@@ -1,37 +1,23 @@
 -- Where no row refers to what a step takes out, the foreign keys do nothing more.
-use Rattle.std.proofs.Common.{◌≡◌, ◌≢◌, inl, inr, ℕ, zero, suc, ℤ, List, [], ◌∷◌, map, filter, Bool, true, false, ◌&&◌, ◌||◌, Some, Ok, Err, MatchBool, Ordering, Less, Equal, Greater, is_eq, codes, refl, sym, ap, subst, ◌∙◌, nat_lt, IsPermutation}
+use Rattle.std.proofs.Common.{◌≡◌, ◌≢◌, inl, inr, ℕ, zero, suc, ℤ, List, [], ◌∷◌, map, filter, Bool, true, false, ◌&&◌, ◌||◌, Some, Ok, Err, MatchBool, Ordering, Less, Equal}
+use Rattle.std.proofs.Common.{Greater, is_eq, codes, refl, sym, ap, subst, ◌∙◌, nat_lt, IsPermutation, int_cmp}
 use Rattle.std.specs.List.{AllByRecursion, list_any}
-use Rattle.std.specs.Ordering.{int_cmp}
 use Rattle.std.proofs.lemmas.Bool.{and_parts}
 use Rattle.std.proofs.lemmas.Cmp.{tied_itself, int_ranked}
-use Rattle.sqlite.specs.declared.types.Value.TheVariants.{Int}
-use Rattle.sqlite.specs.Order.{Row, column}
-use Rattle.sqlite.specs.Term.{Term}
-use Rattle.sqlite.specs.Table.{Table}
-use Rattle.sqlite.specs.Schema.{Schema}
-use Rattle.sqlite.specs.Tree.{Trees, rowid}
-use Rattle.sqlite.specs.Edit.{Edit, edit_of, taken_by, id_in}
+use Rattle.ci_store.specs.Prelude.{Int, Row, column, Term, Table, Schema, Trees, Edit, edit_of, taken_by, Given, value_cmp, plain, has_rowid, IsShaped, equal, Keys, Enforced}
+use Rattle.ci_store.specs.Prelude.{TooDeep, Applies, Has, ids_of, End, Work, works, pairs, is_child_of, AreChildren, ActsOn, Leads, max_depth}
+use Rattle.sqlite.specs.Tree.{rowid}
+use Rattle.sqlite.specs.Edit.{id_in}
 use Rattle.sqlite.specs.Collation.TheVariants.{Binary}
-use Rattle.sqlite.specs.Rowids.TheVariants.{Given}
-use Rattle.sqlite_value.specs.Order.{value_cmp}
 use Rattle.sqlite_value.specs.declared.keys.Key.{Key}
-use Rattle.sqlite_value.specs.Keys.{plain}
 use Rattle.sqlite_value.proofs.KeyLemmas.{first_key-plain}
 use Rattle.sqlite_value.proofs.OrderLemmas.{value_cmp-Int, value_cmp_total}
-use Rattle.sqlite_trees.specs.Tree.{has_rowid}
-use Rattle.sqlite_trees.specs.View.{IsShaped}
 use Rattle.sqlite_trees.specs.declared.store.Shape.TheVariants as shape
 use Rattle.sqlite_trees.proofs.ListLemmas.{all-permutation}
-use Rattle.sqlite_schema.specs.Rules.{equal}
 use Rattle.sqlite_schema.specs.declared.schema.Action.TheVariants as act
-use Rattle.sqlite_schema.specs.declared.schema.Keys.{Keys}
-use Rattle.sqlite_schema.specs.declared.schema.Keys.TheVariants.{Enforced}
 use Rattle.sqlite_rules.specs.declared.action.Deed.TheVariants as deed
-use Rattle.sqlite_rules.specs.declared.error.Refusal.TheVariants.{TooDeep}
-use Rattle.sqlite_rules.specs.Edit.{Applies, row_at}
-use Rattle.sqlite_rules.specs.Lists.{Has}
-use Rattle.sqlite_rules.specs.Calls.{ids_of}
-use Rattle.sqlite_rules.specs.Action.{End, Work, works, pairs, is_child_of, AreChildren, ActsOn, Leads, Writes, max_depth}
+use Rattle.sqlite_rules.specs.Edit.{row_at}
+use Rattle.sqlite_rules.specs.Action.{Writes}
 use Rattle.sqlite_rules.proofs.ListLemmas.{all_has, all_from, has_left, has_right, has_filtered}
 use Rattle.sqlite_rules.proofs.ProbeLemmas.{has_mapped}
 use Rattle.sqlite_rules.proofs.PlaceLemmas.{row_at_is}

@@ -1,12 +1,9 @@
 -- What a query inside a transaction leaves of the last commit.
 use Rattle.std.proofs.Common.{◌≡◌, ◌⊎◌, inl, inr, ℕ, List, Bool, true, false, cond, Option, Some, None, IsTrue, refl, sym, subst, ◌∙◌}
-use Rattle.sqlite.specs.Order.{Row}
+use Rattle.ci_store.specs.Prelude.{Row, Error, Returning, Compiled, Database, ShowsRows, Shown, IsUnchanged, IsRolledBack, KeepsCommit, FailsToQuery, FailsToShow, IsNotRun}
+use Rattle.ci_store.specs.Prelude.{IsTooLate}
 use Rattle.sqlite.specs.Clock.{timed}
-use Rattle.sqlite.specs.declared.error.Error.{Error}
-use Rattle.sqlite_schema.specs.declared.command.Returning.{Returning}
-use Rattle.sqlite_resolve.specs.declared.compiled.Compiled.{Compiled}
-use Rattle.sqlite.specs.Effect.{Database}
-use Rattle.sqlite.specs.State.{State, ShowsRows, Shown, IsUnchanged, IsRolledBack, KeepsCommit, FailsToQuery, FailsToShow, IsNotRun, IsTooLate}
+use Rattle.sqlite.specs.State.{State}
 
 unchanged_keeps : (old new : State) → IsUnchanged old new → KeepsCommit old new
 unchanged_keeps old new same = record { was_open = λ _. same.0.was_open; committed = λ _. same.0.committed_is }

@@ -1,22 +1,13 @@
 -- The trees of a database list one schema.
 use Rattle.std.proofs.Common.{◌≡◌, inl, inr, ℕ, zero, suc, ◌+◌, ◌<◌, ◌≤◌, pos, List, [], ◌∷◌, filter, length, slice_get, true, false, Some, refl, sym, ap, subst, ◌∙◌, arith, map}
+use Rattle.std.proofs.Common.{is_eq}
 use Rattle.std.specs.List.{AllZip}
-use Rattle.std.specs.Ordering.{is_eq}
 use Rattle.std.specs.Char.{to_ascii_lowercase}
 use Rattle.std.proofs.lemmas.Cmp.{tied_itself, nat_list_cmp_total}
-use Rattle.sqlite.specs.declared.types.Value.{Value}
-use Rattle.sqlite.specs.declared.types.Value.TheVariants.{Null, Int, Text, Real, Blob}
-use Rattle.sqlite.specs.Order.{Row, column}
-use Rattle.sqlite.specs.Table.{Table}
-use Rattle.sqlite.specs.Schema.{Schema}
-use Rattle.sqlite.specs.Tree.{Trees, rowid}
-use Rattle.sqlite_schema.specs.declared.schema.Index.{Index}
-use Rattle.sqlite_schema.specs.Names.{same_name}
+use Rattle.ci_store.specs.Prelude.{Value, Null, Int, Text, Real, Blob, Row, column, Table, Schema, Trees, Index, same_name, IsAscending, catalog_tree, IsTableRow, IsIndexRow}
+use Rattle.ci_store.specs.Prelude.{IsViewRow, IsDefined, automatic, IsSound, is_index_row, Has}
+use Rattle.sqlite.specs.Tree.{rowid}
 use Rattle.sqlite.specs.Compile.{table_defined_by}
-use Rattle.sqlite_trees.specs.Tree.{IsAscending}
-use Rattle.sqlite_trees.specs.Objects.{catalog_tree}
-use Rattle.sqlite_catalog.specs.Listing.{IsTableRow, IsIndexRow, IsViewRow, IsDefined, automatic, IsSound, is_index_row}
-use Rattle.sqlite_rules.specs.Lists.{Has}
 use Rattle.sqlite_rules.proofs.ListLemmas.{all_has}
 
 same_tree : (v : Value) (a b : ℕ) → v ≡ Int (pos (a + 1)) → v ≡ Int (pos (b + 1)) → a ≡ b

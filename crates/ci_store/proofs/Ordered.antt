@@ -2,19 +2,13 @@
 use Rattle.std.proofs.Common.{◌≡◌, ℕ, List, [], ◌∷◌, map, filter, Bool, refl, sym, ap, subst, ◌∙◌, IsPermutation, Less}
 use Rattle.std.specs.Cmp.{IsTotalOrder}
 use Rattle.std.proofs.lemmas.List.Sorted.{IsPermutation-map, IsPermutation-sym, IsPermutation-trans}
-use Rattle.sqlite.specs.Order.{Row}
+use Rattle.ci_store.specs.Prelude.{Row, Term, Output, output, output_cmp, key_cmp, limited, Table, Schema, Shown, IsAscending, places, image, Holds}
 use Rattle.sqlite_value.specs.declared.keys.Key.{Key}
-use Rattle.sqlite.specs.Term.{Term}
-use Rattle.sqlite.specs.Query.{Output, output, output_cmp, key_cmp, limited}
-use Rattle.sqlite.specs.Table.{Table}
-use Rattle.sqlite.specs.Schema.{Schema}
-use Rattle.sqlite.specs.State.{State, Shown}
-use Rattle.sqlite_trees.specs.Tree.{IsAscending}
+use Rattle.sqlite.specs.State.{State}
 use Rattle.sqlite.proofs.Callers.{reads_as}
 use Rattle.sqlite_keyed.proofs.SortLemmas.{sorted_unique}
 use Rattle.sqlite_rules.proofs.ListLemmas.{all_from}
 use Rattle.sqlite_trees.proofs.ListLemmas.{IsPermutation-filter, filter-map, filter_same}
-use Rattle.ci_store.specs.Stands.{places, image, Holds}
 use Rattle.ci_store.proofs.Queries.{query, picks, count_of, answered_to, map_map}
 use Rattle.ci_store.proofs.Selects.{MeansSelectTo}
 

@@ -5,13 +5,9 @@ use Rattle.sqlite_ast.specs.declared.Statement.{Statement}
 use Rattle.sqlite_ast.specs.declared.Statement.TheVariants as written
 use Rattle.sqlite_schema.specs.declared.schema.Schema.{Schema}
 use Rattle.sqlite_schema.specs.declared.command.Command.{Command}
-use Rattle.sqlite_schema.specs.declared.command.Returning.{Returning}
-use Rattle.sqlite_resolve.specs.declared.compiled.Compiled.{Compiled}
-use Rattle.sqlite_resolve.specs.declared.error.CompileError.TheVariants.{NoSuchTable}
-use Rattle.sqlite_resolve.specs.Lowering.{Checked, and_then}
-use Rattle.sqlite_resolve.specs.Compile.{compiled, planned, meaning, returning, timed, first, with_command, command}
-use Rattle.sqlite.specs.Given.{IsPlain}
-use Rattle.sqlite.specs.Listing.{understood, reads_listing, listing_schema, if_select, is_select}
+use Rattle.ci_store.specs.Prelude.{Returning, Compiled, NoSuchTable, Checked, and_then, compiled, planned, meaning, returning, first, with_command, command, IsPlain, understood}
+use Rattle.ci_store.specs.Prelude.{reads_listing, listing_schema, if_select, is_select}
+use Rattle.sqlite_resolve.specs.Compile.{timed}
 
 abbrev pub is_selection : Statement → Bool
 is_selection (written.Select s) = true

@@ -2,33 +2,15 @@
 use Rattle.std.proofs.Common.{◌≡◌, ◌≢◌, inl, inr, ℕ, ◌/◌, List, [], ◌∷◌, map, filter, length, Bool, true, false, not, cond, Some, Ok, slice_get, refl, sym, ap, subst, IsPermutation}
 use Rattle.std.specs.List.{AllByRecursion}
 use Rattle.std.proofs.lemmas.List.Sorted.{IsPermutation-trans}
-use Rattle.sqlite.specs.Order.{Row}
-use Rattle.sqlite.specs.Term.{Term, col, eval_all}
-use Rattle.sqlite.specs.Table.{Table}
-use Rattle.sqlite.specs.Schema.{Schema}
-use Rattle.sqlite.specs.Source.TheVariants.{Values}
-use Rattle.sqlite.specs.Command.TheVariants.{Insert, Update, Delete}
-use Rattle.sqlite.specs.Rowids.TheVariants.{Chosen}
-use Rattle.sqlite.specs.Tree.{Trees, put_row}
-use Rattle.sqlite.specs.Edit.{with_rowid}
-use Rattle.sqlite.specs.Cast.{cast_row}
-use Rattle.sqlite.specs.Effect.{value_rows, IsDatabase}
-use Rattle.sqlite_catalog.specs.Listing.{IsSound}
-use Rattle.sqlite.specs.State.{State, Executes}
-use Rattle.sqlite.specs.Store.{Ghosts}
-use Rattle.sqlite.specs.Held.{Held, state}
-use Rattle.sqlite.specs.Listing.{understood}
-use Rattle.sqlite_rules.specs.Action.{works}
-use Rattle.sqlite_schema.specs.declared.schema.Keys.TheVariants.{Enforced}
-use Rattle.sqlite_rules.specs.Lists.{Has}
-use Rattle.sqlite_rules.specs.Edit.{are_fresh, have_rowids}
+use Rattle.ci_store.specs.Prelude.{Row, Term, col, eval_all, Table, Schema, Values, Insert, Update, Delete, Chosen, Trees, with_rowid, cast_row, value_rows, IsDatabase, IsSound}
+use Rattle.ci_store.specs.Prelude.{Executes, Ghosts, Held, state, understood, works, Enforced, Has, are_fresh, have_rowids, IsShaped, places, image, has_key, without, Holds, IsOf}
+use Rattle.ci_store.specs.Prelude.{are_apart, HasPut}
+use Rattle.sqlite.specs.Tree.{put_row}
+use Rattle.sqlite.specs.State.{State}
 use Rattle.sqlite_rules.proofs.ListLemmas.{all_has, all_from, has_got}
-use Rattle.sqlite_trees.specs.View.{IsShaped}
 use Rattle.sqlite_trees.specs.declared.store.Shape.TheVariants as shape
 use Rattle.sqlite_trees.proofs.TreeLemmas.{IsShaped-filter}
 use Rattle.sqlite.proofs.Callers.{IsPlain, command_of, statement_of, runs_as}
-use Rattle.ci_store.specs.Stands.{places, image, has_key, without, Holds, IsOf, are_apart}
-use Rattle.ci_store.specs.Statements.{HasPut}
 use Rattle.ci_store.proofs.Queries.{picks}
 use Rattle.ci_store.proofs.Writes.{Sets, program, IsWholeStep, deletes, updates, inserts}
 use Rattle.ci_store.proofs.Stands.{images_without, removed, added, follows}

@@ -1,22 +1,15 @@
 -- What a SELECT over one table shows of its records.
 use Rattle.std.proofs.Common.{◌≡◌, ℕ, List, [], ◌∷◌, map, filter, Bool, true, false, refl, sym, ap, subst, ◌∙◌, IsPermutation}
 use Rattle.std.proofs.lemmas.List.Sorted.{IsPermutation-sym, IsPermutation-trans}
-use Rattle.sqlite.specs.Order.{Row}
+use Rattle.ci_store.specs.Prelude.{Row, Term, eval_all, Table, Schema, Select, Database, Answers, Shown, ShowsRows, IsUnchanged, understood, reads_listing, Has, places, image}
+use Rattle.ci_store.specs.Prelude.{Holds}
 use Rattle.sqlite_value.specs.declared.keys.Key.{Key}
-use Rattle.sqlite.specs.Term.{Term, eval_all}
-use Rattle.sqlite.specs.Table.{Table}
-use Rattle.sqlite.specs.Schema.{Schema}
-use Rattle.sqlite.specs.Command.TheVariants.{Select}
-use Rattle.sqlite.specs.Effect.{Database, Answers}
-use Rattle.sqlite.specs.State.{State, Shown, ShowsRows, IsUnchanged}
+use Rattle.sqlite.specs.State.{State}
 use Rattle.sqlite.specs.Clock.{timed}
-use Rattle.sqlite.specs.Listing.{understood, reads_listing}
 use Rattle.sqlite.proofs.Callers.{IsPlain, command_of, reads_as}
-use Rattle.sqlite_rules.specs.Lists.{Has}
 use Rattle.sqlite_rules.proofs.ListLemmas.{all_from, has_kept}
 use Rattle.ci_store.proofs.Writes.{perm_nil, map_nil}
 use Rattle.sqlite_trees.proofs.ListLemmas.{IsPermutation-filter, filter-map, filter_same}
-use Rattle.ci_store.specs.Stands.{places, image, Holds}
 use Rattle.ci_store.proofs.Queries.{query, query_to, no_limit, picks, answered, shows}
 
 -- what the text of a query of so many rows at most means, which `refl` finds

@@ -3,19 +3,12 @@ use Rattle.std.proofs.Common.{◌≡◌, ◌≢◌, inl, inr, ℕ, ◌==◌, Lis
 use Rattle.std.specs.List.{AllByRecursion}
 use Rattle.std.proofs.lemmas.Bool.{and_parts, cases_Bool, eqb-false, not-true}
 use Rattle.std.proofs.lemmas.List.Sorted.{IsPermutation-map, IsPermutation-sym, IsPermutation-cons, IsPermutation-trans}
-use Rattle.sqlite.specs.Order.{Row}
-use Rattle.sqlite.specs.Table.{Table}
-use Rattle.sqlite.specs.Schema.{Schema}
-use Rattle.sqlite.specs.Tree.{Trees, put_row}
-use Rattle.sqlite.specs.Effect.{Database}
-use Rattle.sqlite_rules.specs.Lists.{Has}
-use Rattle.sqlite_rules.specs.Edit.{are_fresh, have_rowids}
+use Rattle.ci_store.specs.Prelude.{Row, Table, Schema, Trees, Database, Has, are_fresh, have_rowids, IsShaped, places, image, has_key, without, Holds, HoldsAll, are_apart}
+use Rattle.sqlite.specs.Tree.{put_row}
 use Rattle.sqlite_rules.proofs.ListLemmas.{all_has, all_from, test_has}
-use Rattle.sqlite_trees.specs.View.{IsShaped}
 use Rattle.sqlite_trees.specs.declared.store.Shape.TheVariants as shape
 use Rattle.sqlite_trees.proofs.TreeLemmas.{IsShaped-filter, IsShaped-put_row}
 use Rattle.sqlite_trees.proofs.ListLemmas.{IsPermutation-filter, filter-map, filter_same}
-use Rattle.ci_store.specs.Stands.{places, image, has_key, without, Holds, HoldsAll, are_apart}
 use Rattle.ci_store.proofs.Rows.{put_one}
 use Rattle.ci_store.proofs.Writes.{Sets}
 

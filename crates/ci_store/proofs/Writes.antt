@@ -2,28 +2,14 @@
 use Rattle.std.proofs.Common.{◌≡◌, ◌≢◌, ◌⊎◌, inl, inr, ℕ, ℤ, List, [], ◌∷◌, map, drop, filter, length, ◌/◌, ◌-◌, ◌++◌, append-nil, MatchBool, arith, Bool, true, false, not, cond, Option, Some, None, Ok, Err, Result, slice_get, unwrap_or, refl, sym, ap, subst, ◌∙◌, IsPermutation}
 use Rattle.std.specs.List.{AllByRecursion}
 use Rattle.std.proofs.lemmas.List.Sorted.{IsPermutation-map, IsPermutation-sym, length_permutation}
-use Rattle.sqlite.specs.Order.{Row}
-use Rattle.sqlite.specs.Term.{Term, col, eval_all}
-use Rattle.sqlite.specs.Table.{Table}
-use Rattle.sqlite.specs.Schema.{Schema}
-use Rattle.sqlite.specs.Source.TheVariants.{Values}
-use Rattle.sqlite.specs.Command.TheVariants.{Insert, Update, Delete}
+use Rattle.ci_store.specs.Prelude.{Row, Term, col, eval_all, Table, Schema, Values, Insert, Update, Delete, Chosen, Above, Given, Trees, Database, value_rows, Tally, Does, AtPlace}
+use Rattle.ci_store.specs.Prelude.{OnRows, Part, Written, Task, stamped, mode_of, Edit, edit_of, edited, taken_by, left_by, with_rowid, Program, Error, cast_row, Applies}
+use Rattle.ci_store.specs.Prelude.{are_fresh, have_rowids, works, ids_of, Enforced, IsShaped}
 use Rattle.sqlite.specs.Command.{Command}
-use Rattle.sqlite.specs.Rowids.TheVariants.{Chosen, Above, Given}
-use Rattle.sqlite.specs.Tree.{Trees, rowid, put_row}
-use Rattle.sqlite.specs.Effect.{Database, value_rows}
-use Rattle.sqlite.specs.Does.{Tally, Does, AtPlace, OnRows}
-use Rattle.sqlite.specs.Rows.{Part, Written, Task, stamped}
-use Rattle.sqlite.specs.State.{State, mode_of, Writes}
-use Rattle.sqlite.specs.Edit.{Edit, edit_of, edited, taken_by, left_by, id_in, with_rowid}
-use Rattle.sqlite_schema.specs.declared.program.Program.{Program}
-use Rattle.sqlite.specs.declared.error.Error.{Error}
-use Rattle.sqlite.specs.Cast.{cast_row}
-use Rattle.sqlite_rules.specs.Edit.{Applies, are_fresh, have_rowids}
-use Rattle.sqlite_rules.specs.Action.{works, Writes as Makes}
-use Rattle.sqlite_rules.specs.Calls.{ids_of}
-use Rattle.sqlite_schema.specs.declared.schema.Keys.TheVariants.{Enforced}
-use Rattle.sqlite_trees.specs.View.{IsShaped}
+use Rattle.sqlite.specs.Tree.{rowid, put_row}
+use Rattle.sqlite.specs.State.{State, Writes}
+use Rattle.sqlite.specs.Edit.{id_in}
+use Rattle.sqlite_rules.specs.Action.{Writes as Makes}
 use Rattle.sqlite_trees.specs.declared.store.Shape.TheVariants as shape
 use Rattle.sqlite.proofs.Callers.{one_step, one_permutation}
 use Rattle.ci_store.proofs.Queries.{query, picks, Answered, answered, shows, map_map}

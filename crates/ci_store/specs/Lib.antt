@@ -4,3 +4,4 @@ pub mod Store
 pub mod Fault
 pub mod Stands
 pub mod Statements
+pub mod Prelude

@@ -1,6 +1,6 @@
 -- What a call leaves of a store: what it keeps, a state with rows of statuses, and what a stop may leave.
 use Rattle.std.specs.Prelude.{Result, Ok, Err, IfOk}
-use Rattle.ci_machine.specs.Kept.{Kept}
+use Rattle.ci_machine.specs.Prelude.{Kept}
 use Rattle.ci_store.specs.declared.fault.StoreFault.{StoreFault}
 use Rattle.ci_store.specs.declared.fault.StoreFault.TheVariants.{Memory, Broken}
 

@@ -1,13 +1,9 @@
 //! A store of the machine's state, by what it holds and by what a stop may leave of it.
 
 ghost use Rattle.std.specs.Prelude.{◌≡◌, length, take};
-ghost use Rattle.ci_machine.specs.Kept.{Kept, cleared, written};
-ghost use Rattle.ci_machine.specs.Statuses.{attempts_of, jobs_of};
-ghost use Rattle.ci_machine.specs.Lookups.{project_at, project_with, project_variables, variable_at, runner_at, runner_with, pipeline_at, job_at, demand_at, variables_of, attempt_at, last_attempt_by, live_attempts, trace_of, next_of, newest_of};
-ghost use Rattle.ci_machine.specs.Ranges.{needs_within, attempts_within, rows_within, row_at, rows_with, pending_after};
-ghost use Rattle.ci_machine.specs.Holders.{holder_at, holders_in};
-ghost use Rattle.ci_machine.specs.Waiting.{mode_at};
-ghost use Rattle.ci_machine.specs.Indexes.{newer_in};
+ghost use Rattle.ci_machine.specs.Prelude.{Kept, cleared, written, attempts_of, jobs_of, project_at, project_with, project_variables, variable_at, runner_at, runner_with};
+ghost use Rattle.ci_machine.specs.Prelude.{pipeline_at, job_at, demand_at, variables_of, attempt_at, last_attempt_by, live_attempts, trace_of, next_of, newest_of, needs_within};
+ghost use Rattle.ci_machine.specs.Prelude.{attempts_within, rows_within, row_at, rows_with, holder_at, holders_in, mode_at, newer_in};
 ghost use Rattle.ci_store.specs.Made.{made_before, AreSome};
 ghost use Rattle.ci_store.specs.Store.{LoadsBy, Ends};
 
@@ -21,9 +17,6 @@ use ci_machine::records::{
     Runner, Variable,
 };
 use ci_machine::text::{Bytes, Text};
-
-/// How many rows a page of pending jobs has, at most.
-pub const PAGE_ROWS: usize = 16;
 
 /// A store of the machine's state, and of the rows of its jobs' statuses. Its loads give what the state has; one commit makes
 /// the changes of an event. It knows nothing of what makes the rows right.
@@ -141,10 +134,6 @@ pub trait Store {
     /// The rows with a status, by job.
     fn rows_with(&mut self, status: Status) -> Result<Vec<BoardRow>, StoreFault>
         ensures { LoadsBy honest holds leaves self.old self.new result (λ k rows. rows.items ≡ rows_with status k.board) };
-
-    /// The first pending rows behind a job, by job: at most `PAGE_ROWS` of them.
-    fn pending_after(&mut self, job: u64) -> Result<Vec<BoardRow>, StoreFault>
-        ensures { LoadsBy honest holds leaves self.old self.new result (λ k rows. rows.items ≡ pending_after PAGE_ROWS job k.board) };
 
     /// The attempt that holds a resource group of a project that was found.
     fn holder(&mut self, project: u64, group: &Text) -> Result<Option<Holder>, StoreFault>

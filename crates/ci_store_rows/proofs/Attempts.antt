@@ -1,57 +1,28 @@
 -- The statements that write `attempt`.
 use Rattle.std.proofs.Common.{◌∙◌, ℕ, Bool, pos, List, [], ◌∷◌, filter, reverse, refl, ap, ◌≡◌, ◌==◌, ◌&&◌, true, Option, sym, map, take, drop, codes, if◌then◌else◌, None, Some, inl, inr, nat_lt}
-use Rattle.sqlite.specs.declared.types.Value.TheVariants.{Null, Text}
-use Rattle.sqlite.specs.Order.{Row, column}
-use Rattle.sqlite.specs.Term.{Term, lit, col}
-use Rattle.sqlite_tied.specs.Compute.{everything}
-use Rattle.sqlite.specs.Listing.{understood}
-use Rattle.sqlite.specs.Store.{Ghosts}
-use Rattle.sqlite.specs.Held.{Held, state}
+use Rattle.ci_store.specs.Prelude.{Null, Text, Row, column, Term, lit, col, everything, understood, Ghosts, Held, state, Kept, with_record, without_record, attempt_cmp, Attempt}
+use Rattle.ci_store.specs.Prelude.{Record, Key, image, places, HasPut, is_live, attempts_of, is_within, attempts_within, attempt_at, live_attempts, last_attempt_by, equal, Le, Ge}
+use Rattle.ci_store.specs.Prelude.{Gt, plain, joined, Enforced, works, pairs, loses, or_null}
 use Rattle.sqlite_keyed.proofs.ListLemmas.{ascending-filter}
-use Rattle.ci_machine.specs.Kept.{Kept}
-use Rattle.ci_machine.specs.State.{with_record, without_record, attempt_cmp}
-use Rattle.ci_machine.specs.declared.records.Attempt.{Attempt}
-use Rattle.ci_machine.specs.declared.change.Record.TheVariants as row
-use Rattle.ci_machine.specs.declared.change.Key.TheVariants as key
-use Rattle.ci_store.specs.Stands.{image, places}
-use Rattle.ci_store.specs.Statements.{HasPut}
 use Rattle.ci_store.proofs.Puts.{MeansPut, MeansRemove, GivesRecord}
 use Rattle.ci_store.proofs.Absent.{absent_rowid}
 use Rattle.ci_store.proofs.Scalars.{cast_int, compares}
-use Rattle.ci_store_rows.specs.declared.texts.TheConstants.{UPDATE_ATTEMPT, INSERT_ATTEMPT, DELETE_ATTEMPT, SELECT_ATTEMPT, SELECT_ATTEMPTS_OF, SELECT_ATTEMPTS_IN, SELECT_ATTEMPTS_WITHIN, SELECT_ATTEMPTS_ABOVE, SELECT_ATTEMPTS_BY}
-use Rattle.ci_store_rows.specs.declared.columns.TheConstants.{LAST_INTEGER}
-use Rattle.ci_store_rows.specs.Schema.{the_schema, attempt}
-use Rattle.ci_store_rows.specs.Rows.{number, attempt_row, state_number, cause_in, exit_in}
-use Rattle.ci_store_rows.specs.Stands.{rows_by_tree, rows_of, Stands, IsAt}
+use Rattle.ci_store_rows.specs.Prelude.{UPDATE_ATTEMPT, INSERT_ATTEMPT, DELETE_ATTEMPT, SELECT_ATTEMPT, SELECT_ATTEMPTS_OF, SELECT_ATTEMPTS_IN, SELECT_ATTEMPTS_WITHIN}
+use Rattle.ci_store_rows.specs.Prelude.{SELECT_ATTEMPTS_ABOVE, SELECT_ATTEMPTS_BY, LAST_INTEGER, the_schema, attempt, number, attempt_row, state_number, cause_in, exit_in}
+use Rattle.ci_store_rows.specs.Prelude.{rows_by_tree, rows_of, Stands, IsAt, ShowsRecords, listed, FindsNumber, in_state, RemovesUnreferred, cause_number}
 use Rattle.ci_store_rows.proofs.OneList.{IsAlike, alike_but, regular_with_attempts}
 use Rattle.ci_store_rows.proofs.Lists.{put_rises, by_number}
 use Rattle.ci_store_rows.proofs.Records.{is, at_least, at_most, put_stands, same_number, finds_number, finds_within, numbered, cast_option, above, finds_beyond}
 use Rattle.sqlite.specs.Collation.TheVariants.{Binary}
-use Rattle.sqlite_schema.specs.Rules.{equal}
 use Rattle.sqlite.proofs.Callers.{IsPlain}
 use Rattle.ci_store.proofs.Selects.{MeansSelect, MeansSelectTo}
-use Rattle.ci_store_rows.specs.Found.{ShowsRecords, listed, FindsNumber}
-use Rattle.ci_values.specs.Attempts.{is_live_state}
-use Rattle.ci_machine.specs.Leases.{is_live}
-use Rattle.sqlite_sql.specs.declared.ops.CompareOp.TheVariants.{Le, Ge, Gt}
-use Rattle.ci_machine.specs.Statuses.{attempts_of}
-use Rattle.ci_machine.specs.Ranges.{is_within, attempts_within}
-use Rattle.ci_machine.specs.Lookups.{attempt_at, live_attempts, last_attempt_by}
-use Rattle.ci_values.specs.declared.attempts.AttemptState.{AttemptState}
-use Rattle.ci_values.specs.declared.attempts.AttemptState.TheVariants.{Live, Succeeded, Failed, Cancelled}
+use Rattle.ci_machine.specs.Prelude.{is_live_state, AttemptState, Live, Succeeded, Failed, Cancelled, Cause, UnknownFailure, ScriptFailure, ApiFailure, StuckOrTimeoutFailure}
+use Rattle.ci_machine.specs.Prelude.{RunnerSystemFailure, JobExecutionTimeout}
 use Rattle.ci_store_rows.proofs.Shows.{columns_of, names_of, by, backward, shows_passing, shows_sorted, shows_backward, found_one, found_all, found_first, first_of_one, last_of_those, rising_numbers, falling_numbers, found_none}
 use Rattle.std.specs.List.{list_any}
-use Rattle.sqlite_value.specs.Keys.{plain, joined}
-use Rattle.sqlite_schema.specs.declared.schema.Keys.TheVariants.{Enforced}
-use Rattle.sqlite_rules.specs.Action.{works, pairs, loses}
-use Rattle.ci_store_rows.specs.Changes.{in_state, RemovesUnreferred}
 use Rattle.ci_store_rows.proofs.Removals.{Referring, queries, cascades, removed_numbered}
 use Rattle.ci_store_rows.proofs.Blocks.{refers_to_attempt}
 use Rattle.ci_store_rows.proofs.Holders.{holders_refer}
-use Rattle.sqlite.specs.Values.{or_null}
-use Rattle.ci_values.specs.declared.attempts.Cause.{Cause}
-use Rattle.ci_values.specs.declared.attempts.Cause.TheVariants.{UnknownFailure, ScriptFailure, ApiFailure, StuckOrTimeoutFailure, RunnerSystemFailure, JobExecutionTimeout}
-use Rattle.ci_store_rows.specs.Rows.{cause_number}
 use Rattle.ci_store_rows.proofs.Same.{same_option}
 
 abbrev sets : List Term
@@ -75,9 +46,9 @@ alike : (k : Kept) (xs : List Attempt) → IsAlike (rows_of k) (rows_of (record 
 alike k xs = alike_but (take 6 (rows_by_tree k)) (drop 7 (rows_by_tree k)) attempt (map attempt_row k.state.attempts) (map attempt_row xs)
 
 pub attempt_puts : {S : Type 0} (ghosts : Ghosts S) (before after : Held S) (a : Attempt) (k : Kept) → Stands k (state ghosts before).now → HasPut ghosts UPDATE_ATTEMPT.now INSERT_ATTEMPT.now (attempt_row a) before after
-    → Stands (in_state (with_record (row.Attempt a)) k) (state ghosts after).now
+    → Stands (in_state (with_record (Record.Attempt a)) k) (state ghosts after).now
 attempt_puts ghosts before after a k stands h =
-    put_stands attempt_row k.state.attempts k (in_state (with_record (row.Attempt a)) k) attempt refl (alike k _) (regular_with_attempts k _ (put_rises attempt_cmp (by_number (λ (q : Attempt). q.id)) a k.state.attempts stands.inside.regular.attempts) stands.inside.regular)
+    put_stands attempt_row k.state.attempts k (in_state (with_record (Record.Attempt a)) k) attempt refl (alike k _) (regular_with_attempts k _ (put_rises attempt_cmp (by_number (λ (q : Attempt). q.id)) a k.state.attempts stands.inside.regular.attempts) stands.inside.regular)
     6 UPDATE_ATTEMPT.now INSERT_ATTEMPT.now (is 0 0 ∷ []) sets sets means attempt_cmp (number a.id ∷ []) a (gives a) (λ q. same_number q.id a.id) refl ghosts before after stands h
 
 means_remove : MeansRemove the_schema 6 attempt DELETE_ATTEMPT.now (is 0 0 ∷ [])
@@ -89,9 +60,9 @@ works_are : (olds : List Row) → works the_schema Enforced 0 attempt.tree olds 
 unfolding everything joined
 works_are olds = refl
 
-pub attempt_removed : {S : Type 0} (g : Ghosts S) (old new : Held S) (id : ℕ) (k : Kept) → Stands k (state g old).now → RemovesUnreferred g (queries (refers_to_attempt ∷ holders_refer ∷ [])) DELETE_ATTEMPT.now (number id ∷ []) old new → Stands (in_state (without_record (key.Attempt id)) k) (state g new).now
+pub attempt_removed : {S : Type 0} (g : Ghosts S) (old new : Held S) (id : ℕ) (k : Kept) → Stands k (state g old).now → RemovesUnreferred g (queries (refers_to_attempt ∷ holders_refer ∷ [])) DELETE_ATTEMPT.now (number id ∷ []) old new → Stands (in_state (without_record (Key.Attempt id)) k) (state g new).now
 attempt_removed g old new id k =
-    removed_numbered g old new attempt_row (λ q. q.id) k.state.attempts id k (in_state (without_record (key.Attempt id)) k) 6 attempt refl refl refl (alike k _) (λ o. regular_with_attempts k _ (ascending-filter _ _ k.state.attempts o.attempts) o) (λ q. same_number q.id id) (λ r. refl)
+    removed_numbered g old new attempt_row (λ q. q.id) k.state.attempts id k (in_state (without_record (Key.Attempt id)) k) 6 attempt refl refl refl (alike k _) (λ o. regular_with_attempts k _ (ascending-filter _ _ k.state.attempts o.attempts) o) (λ q. same_number q.id id) (λ r. refl)
     DELETE_ATTEMPT.now means_remove (codes "attempt") (refers_to_attempt ∷ holders_refer ∷ []) works_are (λ e. absurd cc, (λ e. absurd cc, tt))
 
 -- ---- two records with the same row

@@ -1,7 +1,9 @@
 -- Traces, and the lists of their blocks.
-use Rattle.std.proofs.Common.{◌≡◌, ◌≢◌, ◌∙◌, ◌<◌, ◌≤◌, ◌==◌, ◌&&◌, ℕ, zero, suc, ◌+◌, ◌-◌, ◌*◌, ◌%◌, List, [], ◌∷◌, ◌++◌, map, filter, find, take, drop, length, min, Bool, true, false, not, cond, is_eq, is_lt, Ordering, Less, Equal, Greater, Option, Some, None, refl, sym, ap, subst, arith, IsPermutation, ne_eqb, length-append, All, IfSome}
+use Rattle.std.proofs.Common.{◌≡◌, ◌≢◌, ◌∙◌, ◌<◌, ◌≤◌, ◌==◌, ◌&&◌, ℕ, zero, suc, ◌+◌, ◌-◌, ◌*◌, ◌%◌, List, [], ◌∷◌, ◌++◌, map, filter, find, take, drop, length, min, Bool, true}
+use Rattle.std.proofs.Common.{false, not, cond, is_eq, is_lt, Ordering, Less, Equal, Greater, Option, Some, None, refl, sym, ap, subst, arith, IsPermutation, ne_eqb, length-append}
+use Rattle.std.proofs.Common.{All, IfSome, nat_cmp}
 use Rattle.std.specs.List.{AllByRecursion, flat_map, range_with_len, last_or}
-use Rattle.std.specs.Ordering.{nat_cmp, ordering_reverse}
+use Rattle.std.specs.Ordering.{ordering_reverse}
 use Rattle.std.proofs.lemmas.Cmp.{nat_cmp_total}
 use Rattle.std.proofs.Math.Seq.{take-add}
 use Rattle.std.proofs.lemmas.Bool.{eqb-true, eq-eqb, lt-ltb}
@@ -9,14 +11,9 @@ use Rattle.std.proofs.lemmas.List.{length-take, length-drop, drop-drop, drop_all
 use Rattle.std.proofs.lemmas.List.Elements.{filter-append, All-from_recursion}
 use Rattle.std.proofs.lemmas.List.FromFn.{map-range_with_len_more, take-map-range_with_len, length-map-range_with_len}
 use Rattle.std.proofs.lemmas.List.Sorted.{IsPermutation-refl, IsPermutation-sym, IsPermutation-trans, IsPermutation-cons, IsPermutation-to_front, IsPermutation-append_left, IsPermutation-append_right, IsPermutation-append_comm}
-use Rattle.sqlite_trees.specs.Tree.{IsAscending}
+use Rattle.ci_store.specs.Prelude.{IsAscending, placed, put, trace_cmp, trace_in, bytes_or_none, with_bytes, Trace}
 use Rattle.sqlite_keyed.proofs.ListLemmas.{IsPermutation-same, IsPermutation-filter, filter-filter, ascending-map, all_weaker}
-use Rattle.ci_machine.specs.State.{placed, put, trace_cmp, trace_in, bytes_or_none, with_bytes}
-use Rattle.ci_machine.specs.declared.records.Trace.{Trace}
-use Rattle.ci_store_rows.specs.declared.block.Block.{Block}
-use Rattle.ci_store_rows.specs.declared.block.TheConstants.{BLOCK_BYTES}
-use Rattle.ci_store_rows.specs.Blocks.{block_at, block_count, blocks_of, block_sizes, all_blocks, last_block, StaysWithin}
-use Rattle.ci_store_rows.specs.Stands.{Rises}
+use Rattle.ci_store_rows.specs.Prelude.{Block, BLOCK_BYTES, block_at, block_count, blocks_of, block_sizes, all_blocks, last_block, StaysWithin, Rises}
 use Rattle.ci_store_rows.proofs.Records.{is_number}
 
 abbrev pub trace : ℕ → List ℕ → Trace

@@ -1,47 +1,21 @@
 -- The statements that write and show `piece`, whose rows are the blocks of traces.
-use Rattle.std.proofs.Common.{◌≡◌, ◌∙◌, ◌==◌, ◌++◌, ℕ, pos, List, [], ◌∷◌, Bool, true, None, Less, is_eq, refl, sym, ap, subst, inl, inr, ◌&&◌, Option, map, take, drop, filter, reverse, IsPermutation}
+use Rattle.std.proofs.Common.{◌≡◌, ◌∙◌, ◌==◌, ◌++◌, ℕ, pos, List, [], ◌∷◌, Bool, true, None, Less, is_eq, refl, sym, ap, subst, inl, inr, ◌&&◌, Option, map, take, drop, filter}
+use Rattle.std.proofs.Common.{reverse, IsPermutation, nat_cmp}
 use Rattle.std.specs.List.{flat_map, last_or}
-use Rattle.std.specs.Ordering.{nat_cmp}
 use Rattle.std.proofs.lemmas.List.Sorted.{IsPermutation-map}
-use Rattle.sqlite_trees.specs.Tree.{IsAscending}
+use Rattle.ci_store.specs.Prelude.{IsAscending, is_null, equal, cast, Integer, Null, Blob, Row, column, Term, col, Trees, Database, everything, understood, Shown, Ghosts, Held}
+use Rattle.ci_store.specs.Prelude.{state, Kept, without_record, with_bytes, trace_cmp, trace_of, Trace, Key, HoldsRows, without, HasPut}
 use Rattle.sqlite_keyed.proofs.ListLemmas.{flat_map-map, ascending_weaker, ascending-filter}
 use Rattle.sqlite_value.specs.declared.keys.Collation.TheVariants.{Binary}
-use Rattle.sqlite_sql.specs.Ops.{is_null}
-use Rattle.sqlite_schema.specs.Rules.{equal}
-use Rattle.sqlite.specs.Cast.{cast}
-use Rattle.sqlite.specs.Kind.TheVariants.{Integer}
-use Rattle.sqlite.specs.declared.types.Value.TheVariants.{Null, Blob}
-use Rattle.sqlite.specs.Order.{Row, column}
-use Rattle.sqlite.specs.Term.{Term, col}
-use Rattle.sqlite.specs.Tree.{Trees}
-use Rattle.sqlite.specs.Effect.{Database}
-use Rattle.sqlite_tied.specs.Compute.{everything}
-use Rattle.sqlite.specs.Listing.{understood}
-use Rattle.sqlite.specs.State.{Shown}
-use Rattle.sqlite.specs.Store.{Ghosts}
-use Rattle.sqlite.specs.Held.{Held, state}
 use Rattle.sqlite.proofs.Callers.{IsPlain}
-use Rattle.ci_machine.specs.Kept.{Kept}
-use Rattle.ci_machine.specs.State.{without_record, with_bytes, trace_cmp}
-use Rattle.ci_machine.specs.Lookups.{trace_of}
-use Rattle.ci_machine.specs.declared.records.Trace.{Trace}
-use Rattle.ci_machine.specs.declared.change.Key.TheVariants as key
-use Rattle.ci_store.specs.Stands.{HoldsRows, without}
-use Rattle.ci_store.specs.Statements.{HasPut}
 use Rattle.ci_store.proofs.Writes.{IsWholeStep, whole_if_alone}
 use Rattle.ci_store.proofs.Puts.{MeansPut, MeansRemove, GivesRecord}
 use Rattle.ci_store.proofs.Absent.{absent_unique}
 use Rattle.ci_store.proofs.Scalars.{cast_int, equal_int}
 use Rattle.ci_store.proofs.Selects.{MeansSelect, MeansSelectTo}
-use Rattle.ci_store_rows.specs.declared.block.Block.{Block}
-use Rattle.ci_store_rows.specs.declared.texts.TheConstants.{UPDATE_BLOCK, INSERT_BLOCK, DELETE_BLOCKS, SELECT_BLOCKS, SELECT_LAST_BLOCKS}
-use Rattle.ci_store_rows.specs.Schema.{the_schema, piece, piece_index_1}
-use Rattle.ci_store_rows.specs.Blocks.{all_blocks, blocks_of, last_block, StaysWithin}
-use Rattle.ci_store_rows.specs.Rows.{number, block_row}
-use Rattle.ci_store_rows.specs.Load.{bytes_in}
-use Rattle.ci_store_rows.specs.Found.{ShowsRecords, listed}
-use Rattle.ci_store_rows.specs.Stands.{rows_by_tree, rows_of, rows_at, Stands}
-use Rattle.ci_store_rows.specs.Changes.{in_state, appended, RemovesUnreferred}
+use Rattle.ci_store_rows.specs.Prelude.{Block, UPDATE_BLOCK, INSERT_BLOCK, DELETE_BLOCKS, SELECT_BLOCKS, SELECT_LAST_BLOCKS, the_schema, piece, piece_index_1, all_blocks}
+use Rattle.ci_store_rows.specs.Prelude.{blocks_of, last_block, StaysWithin, number, block_row, bytes_in, ShowsRecords, listed, rows_by_tree, rows_of, rows_at, Stands, in_state}
+use Rattle.ci_store_rows.specs.Prelude.{appended, RemovesUnreferred}
 use Rattle.ci_store_rows.proofs.OneList.{IsAlike, alike_but, regular_with_traces}
 use Rattle.ci_store_rows.proofs.Lists.{put_rises, by_number, without_is}
 use Rattle.ci_store_rows.proofs.Records.{is, is_number, finds_number, put_moved, same_number}
@@ -116,9 +90,9 @@ whole : (asked : List Term) (params : Row) (db : Trees) → IsWholeStep the_sche
 unfolding everything
 whole asked params db = whole_if_alone the_schema piece asked params db (λ olds. refl)
 
-pub trace_removed : {S : Type 0} (g : Ghosts S) (old new : Held S) (attempt : ℕ) (k : Kept) → Stands k (state g old).now → RemovesUnreferred g [] DELETE_BLOCKS.now (number attempt ∷ []) old new → Stands (in_state (without_record (key.Trace attempt)) k) (state g new).now
+pub trace_removed : {S : Type 0} (g : Ghosts S) (old new : Held S) (attempt : ℕ) (k : Kept) → Stands k (state g old).now → RemovesUnreferred g [] DELETE_BLOCKS.now (number attempt ∷ []) old new → Stands (in_state (without_record (Key.Trace attempt)) k) (state g new).now
 trace_removed g old new attempt k =
-    removed_owned g old new block_row 7 piece (is 1 0 ∷ []) (λ b. is_eq (nat_cmp b.attempt attempt)) (all_blocks k.state.traces) (number attempt ∷ []) k (in_state (without_record (key.Trace attempt)) k) refl (ap (map block_row) (blocks_without attempt k.state.traces)) (alike k (in_state (without_record (key.Trace attempt)) k).state.traces)
+    removed_owned g old new block_row 7 piece (is 1 0 ∷ []) (λ b. is_eq (nat_cmp b.attempt attempt)) (all_blocks k.state.traces) (number attempt ∷ []) k (in_state (without_record (Key.Trace attempt)) k) refl (ap (map block_row) (blocks_without attempt k.state.traces)) (alike k (in_state (without_record (Key.Trace attempt)) k).state.traces)
     (λ o. regular_with_traces k _ (ascending-filter _ _ k.state.traces o.traces) o) (λ b. same_number b.attempt attempt) (λ r. refl) DELETE_BLOCKS.now means_remove (whole (is 1 0 ∷ []))
 
 -- ---- two blocks with the same row

@@ -1,45 +1,23 @@
 -- The statements that write `board`.
 use Rattle.std.proofs.Common.{◌≡◌, ◌∙◌, ◌==◌, ◌&&◌, ℕ, pos, List, [], ◌∷◌, map, take, drop, true, if◌then◌else◌, Option, refl, sym, ap, codes}
 use Rattle.sqlite.specs.Collation.TheVariants.{Binary}
-use Rattle.sqlite.specs.declared.types.Value.TheVariants.{Null}
-use Rattle.sqlite.specs.Order.{Row, column}
-use Rattle.sqlite.specs.Term.{Term, lit, col}
-use Rattle.sqlite_sql.specs.declared.ops.CompareOp.TheVariants.{Le, Gt, Ge}
-use Rattle.sqlite_schema.specs.Rules.{equal}
-use Rattle.sqlite_schema.specs.declared.schema.Keys.TheVariants.{Enforced}
-use Rattle.sqlite_value.specs.Keys.{plain}
-use Rattle.sqlite_rules.specs.Action.{works, pairs, loses}
+use Rattle.ci_store.specs.Prelude.{Null, Row, column, Term, lit, col, Le, Ge, equal, Enforced, plain, works, pairs, loses, everything, understood, Ghosts, Held, state, Status}
+use Rattle.ci_store.specs.Prelude.{status_number, is_status, Kept, row_cmp, cleared, put, is_within, rows_within, row_at, rows_with, BoardRow}
+use Rattle.ci_store.specs.Prelude.{image, places, HasPut}
 use Rattle.sqlite_keyed.proofs.ListLemmas.{ascending-filter}
 use Rattle.std.specs.List.{list_any}
-use Rattle.sqlite_tied.specs.Compute.{everything}
-use Rattle.sqlite.specs.Listing.{understood}
-use Rattle.sqlite.specs.Store.{Ghosts}
-use Rattle.sqlite.specs.Held.{Held, state}
 use Rattle.sqlite.proofs.Callers.{IsPlain}
-use Rattle.ci_board.specs.declared.facts.Status.{Status}
-use Rattle.ci_board.specs.declared.facts.Status.TheVariants as status
-use Rattle.ci_board.specs.Effects.{status_number, is_status}
-use Rattle.ci_machine.specs.Kept.{Kept, row_cmp, cleared}
-use Rattle.ci_machine.specs.State.{put}
-use Rattle.ci_machine.specs.Ranges.{is_within, rows_within, row_at, rows_with, is_pending_after, pending_after}
-use Rattle.ci_machine.specs.declared.records.BoardRow.{BoardRow}
-use Rattle.ci_store.specs.Stands.{image, places}
-use Rattle.ci_store.specs.Statements.{HasPut}
 use Rattle.ci_store.proofs.Puts.{MeansPut, MeansRemove, GivesRecord}
 use Rattle.ci_store.proofs.Absent.{absent_rowid}
 use Rattle.ci_store.proofs.Scalars.{cast_int, compares}
-use Rattle.ci_store.proofs.Selects.{MeansSelect, MeansSelectTo}
-use Rattle.ci_store_rows.specs.declared.texts.TheConstants.{UPDATE_ROW, INSERT_ROW, DELETE_ROW, SELECT_ROW, SELECT_ROWS_WITHIN, SELECT_ROWS_WITH, SELECT_ROWS_AFTER}
-use Rattle.ci_store_rows.specs.Schema.{the_schema, board}
-use Rattle.ci_store_rows.specs.Rows.{number, board_row}
-use Rattle.ci_store_rows.specs.Stands.{rows_by_tree, rows_of, Stands, IsAt}
-use Rattle.ci_store_rows.specs.Found.{ShowsRecords, listed}
-use Rattle.ci_store_rows.specs.Changes.{in_board, RemovesUnreferred}
+use Rattle.ci_store.proofs.Selects.{MeansSelect}
+use Rattle.ci_store_rows.specs.Prelude.{UPDATE_ROW, INSERT_ROW, DELETE_ROW, SELECT_ROW, SELECT_ROWS_WITHIN, SELECT_ROWS_WITH, the_schema, board, number}
+use Rattle.ci_store_rows.specs.Prelude.{board_row, rows_by_tree, rows_of, Stands, IsAt, ShowsRecords, listed, in_board, RemovesUnreferred}
 use Rattle.ci_store_rows.proofs.OneList.{IsAlike, alike_but, regular_with_board}
 use Rattle.ci_store_rows.proofs.Lists.{put_rises, by_number}
-use Rattle.ci_store_rows.proofs.Records.{is, at_least, at_most, above, put_stands, same_number, finds_number, finds_within, finds_above, numbered}
+use Rattle.ci_store_rows.proofs.Records.{is, at_least, at_most, put_stands, same_number, finds_number, finds_within, numbered}
 use Rattle.ci_store_rows.proofs.Removals.{Referring, cascades, removed_numbered}
-use Rattle.ci_store_rows.proofs.Shows.{columns_of, names_of, pair, by, by_total, shows_passing, shows_sorted, shows_ordered, found_one, found_first, found_all, rising_numbers}
+use Rattle.ci_store_rows.proofs.Shows.{columns_of, names_of, by, shows_passing, shows_sorted, found_one, found_all, rising_numbers}
 
 abbrev sets : List Term
 sets = col 0 0 ∷ lit Null ∷ col 0 1 ∷ col 0 2 ∷ col 0 3 ∷ col 0 4 ∷ []
@@ -85,17 +63,17 @@ row_removed g old new job k =
 
 abbrev status_back : ℕ → Status
 status_back n =
-    if n == 0 then status.Created else (if n == 1 then status.Pending else (if n == 2 then status.Running else (if n == 3 then status.Success else (if n == 4 then status.Failed else (if n == 5 then status.Canceled else (if n == 6 then status.Skipped else status.Manual))))))
+    if n == 0 then Status.Created else (if n == 1 then Status.Pending else (if n == 2 then Status.Running else (if n == 3 then Status.Success else (if n == 4 then Status.Failed else (if n == 5 then Status.Canceled else (if n == 6 then Status.Skipped else Status.Manual))))))
 
 status_is : (s : Status) → status_back (status_number s) ≡ s
-status_is status.Created = refl
-status_is status.Pending = refl
-status_is status.Running = refl
-status_is status.Success = refl
-status_is status.Failed = refl
-status_is status.Canceled = refl
-status_is status.Skipped = refl
-status_is status.Manual = refl
+status_is Status.Created = refl
+status_is Status.Pending = refl
+status_is Status.Running = refl
+status_is Status.Success = refl
+status_is Status.Failed = refl
+status_is Status.Canceled = refl
+status_is Status.Skipped = refl
+status_is Status.Manual = refl
 
 same_row : (p q : BoardRow) → board_row p ≡ board_row q → p ≡ q
 same_row p q h =
@@ -156,22 +134,4 @@ rows_with_found g old new k at s found h =
     (shows_sorted board_row 9 board refl SELECT_ROWS_WITH.now (is 2 0 ∷ []) (number (status_number s) ∷ []) (λ im. equal Binary (column im 1) (number (status_number s)) && true) (λ r. refl)
     (λ x. is_status x.row.status s) (λ x. finds_number (status_number x.row.status) (status_number s)) k k.board refl h.rows 0 0 (λ r. refl) means_select_with
     (rising_numbers (λ (x : BoardRow). x.job) (λ x. is_status x.row.status s) k.board at.now.inside.regular.board) (state g old) (state g new) at.now h.shown)
-    found h.read
-
--- the third value is how many rows are shown at most
-means_select_after : MeansSelectTo (col 0 2) the_schema board SELECT_ROWS_AFTER.now (is 2 0 ∷ above 0 1 ∷ []) (columns_of board) (by 0) (names_of board)
-unfolding understood everything
-means_select_after = record { is = refl; unlisted = refl; plain = (refl, refl) }
-
-pub plain_select_after : IsPlain (understood the_schema SELECT_ROWS_AFTER.now)
-plain_select_after = means_select_after.plain
-
-pub pending_found : {S : Type 0} (g : Ghosts S) (old new : Held S) (k : Kept) → IsAt g k old → (job count : ℕ) (found : List BoardRow)
-    → ShowsRecords (λ row x. row ≡ board_row x) g SELECT_ROWS_AFTER.now (number (status_number status.Pending) ∷ number job ∷ number count ∷ []) old new found → found ≡ pending_after count job k.board
-pending_found g old new k at job count found h =
-    found_first (λ row x. row ≡ board_row x) board_row (is_pending_after job) k.board (λ x y _ same. sym (same_row y x same)) count h.rows
-    (shows_ordered board_row 9 board refl SELECT_ROWS_AFTER.now (is 2 0 ∷ above 0 1 ∷ []) (number (status_number status.Pending) ∷ number job ∷ number count ∷ [])
-    (λ im. equal Binary (column im 1) (number (status_number status.Pending)) && (compares Gt (column im 0) (number job) && true)) (λ r. refl)
-    (is_pending_after job) (λ x. finds_above (status_number status.Pending) job (status_number x.row.status) x.job) k k.board refl h.rows (col 0 2) (by 0) (by_total (is 2 0 ∷ above 0 1 ∷ []) (columns_of board) board.tree 0) (pair 0) (λ im. refl) (λ r. refl) means_select_after
-    (rising_numbers (λ (x : BoardRow). x.job) (is_pending_after job) k.board at.now.inside.regular.board) (state g old) (state g new) at.now h.shown)
     found h.read

@@ -1,24 +1,14 @@
 -- Each CREATE adds its table or its index to the schema.
 use Rattle.std.proofs.Common.{◌≡◌, ◌⊎◌, inl, inr, ℕ, zero, suc, map, ◌+◌, ◌<◌, List, [], ◌∷◌, ◌++◌, false, Some, None, Ok, Err, Result, refl, sym, ap, subst, ◌∙◌, arith, slice_get, slice_index_or, take}
 use Rattle.std.specs.List.{AllByRecursion}
-use Rattle.sqlite.specs.Table.{Table}
-use Rattle.sqlite.specs.Schema.{Schema}
-use Rattle.sqlite.specs.Tree.{Trees}
-use Rattle.sqlite.specs.Effect.{Database}
-use Rattle.sqlite_tied.specs.Text.{table_defined_by, index_defined_by}
-use Rattle.sqlite_schema.specs.declared.schema.Index.{Index}
-use Rattle.sqlite_catalog.specs.Change.{created, indexed, next_tree, KeepsRows}
-use Rattle.sqlite.specs.Does.{Tally, AtPlace, Defines, MakesIndex, lacks_sequence}
-use Rattle.sqlite.specs.State.{State, mode_of, Writes, Executes}
-use Rattle.sqlite.specs.Listing.{understood}
-use Rattle.sqlite_tied.specs.Compute.{everything}
-use Rattle.sqlite.specs.Command.TheVariants.{CreateTable, CreateIndex}
+use Rattle.ci_store.specs.Prelude.{Table, Schema, Trees, Database, index_defined_by, Index, created, next_tree, KeepsRows, Tally, AtPlace, Defines, MakesIndex, lacks_sequence}
+use Rattle.ci_store.specs.Prelude.{mode_of, Executes, understood, everything, CreateTable, CreateIndex}
+use Rattle.sqlite_tied.specs.Text.{table_defined_by}
+use Rattle.sqlite_catalog.specs.Change.{indexed}
+use Rattle.sqlite.specs.State.{State, Writes}
 use Rattle.sqlite.proofs.Callers.{IsPlain, command_of, statement_of, runs_as}
-use Rattle.ci_store_rows.specs.declared.version1.TheConstants.{SCHEMA}
-use Rattle.ci_store_rows.specs.declared.version2.TheConstants.{CREATE_MODE}
+use Rattle.ci_store_rows.specs.Prelude.{SCHEMA, CREATE_MODE, the_schema, IsBare}
 use Rattle.ci_store_rows.specs.Schema as table
-use Rattle.ci_store_rows.specs.Schema.{the_schema}
-use Rattle.ci_store_rows.specs.Create.{IsBare}
 
 -- a part that gave a value did not stop on the way
 pub went : {B E R : Type 0} {b : B} {Stops : E → Type 0} → ((stop : E) × Stops stop × (Ok b ≡ Err stop)) ⊎ R → R

@@ -1,34 +1,14 @@
 -- The queries that load what jobs ask of runners.
 use Rattle.std.proofs.Common.{◌≡◌, ◌∙◌, ◌==◌, ◌&&◌, ℕ, List, [], ◌∷◌, true, Option, Some, option_map, codes, refl, sym, ap, inl, inr, nat_lt}
-use Rattle.sqlite.specs.declared.types.Value.TheVariants.{Text}
-use Rattle.sqlite.specs.Order.{Row, column}
-use Rattle.sqlite.specs.Term.{Term, col}
+use Rattle.ci_store.specs.Prelude.{Text, Row, column, Term, col, understood, Ghosts, Held, state, everything, equal, Gt, Has, Kept, demand_of, demand_at, Job, Demand}
 use Rattle.sqlite.specs.Collation.TheVariants.{Binary}
-use Rattle.sqlite.specs.Listing.{understood}
-use Rattle.sqlite.specs.Store.{Ghosts}
-use Rattle.sqlite.specs.Held.{Held, state}
 use Rattle.sqlite.proofs.Callers.{IsPlain}
-use Rattle.sqlite_tied.specs.Compute.{everything}
-use Rattle.sqlite_schema.specs.Rules.{equal}
-use Rattle.sqlite_sql.specs.declared.ops.CompareOp.TheVariants.{Gt}
-use Rattle.sqlite_rules.specs.Lists.{Has}
 use Rattle.sqlite_rules.proofs.ListLemmas.{all_has}
 use Rattle.serde_json.specs.Read.{read}
-use Rattle.ci_machine.specs.Kept.{Kept}
-use Rattle.ci_machine.specs.Lookups.{demand_of, demand_at}
-use Rattle.ci_machine.specs.declared.records.Job.{Job}
-use Rattle.ci_machine.specs.declared.records.Demand.{Demand}
 use Rattle.ci_store.proofs.Selects.{MeansSelect}
 use Rattle.ci_store.proofs.Scalars.{compares}
-use Rattle.ci_store_rows.specs.JsonText.{spec_text, spec_data}
-use Rattle.ci_store_rows.specs.Reads.{ReadsDemand}
-use Rattle.ci_store_rows.specs.declared.texts.TheConstants.{SELECT_DEMAND, SELECT_DEMANDS_ABOVE}
-use Rattle.ci_store_rows.specs.declared.columns.TheConstants.{LAST_INTEGER}
-use Rattle.ci_store_rows.specs.Schema.{the_schema, job}
-use Rattle.ci_store_rows.specs.Rows.{number, job_row}
-use Rattle.ci_store_rows.specs.Stands.{IsRegular, IsAt}
-use Rattle.ci_store_rows.specs.Found.{ShowsRecords, listed, FindsNumber}
-use Rattle.ci_store_rows.specs.Load.{demand_cells, IsDemandRow}
+use Rattle.ci_store_rows.specs.Prelude.{spec_text, spec_data, ReadsDemand, SELECT_DEMAND, SELECT_DEMANDS_ABOVE, LAST_INTEGER, the_schema, job, number, job_row, IsRegular, IsAt}
+use Rattle.ci_store_rows.specs.Prelude.{ShowsRecords, listed, FindsNumber, demand_cells, IsDemandRow}
 use Rattle.ci_store_rows.proofs.Records.{is, above, finds_number, finds_beyond}
 use Rattle.ci_store_rows.proofs.Shows.{shows_columns, found_as, found_none}
 

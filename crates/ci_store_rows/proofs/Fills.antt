@@ -2,25 +2,12 @@
 use Rattle.std.proofs.Common.{◌≡◌, ◌⊎◌, inl, inr, ℕ, zero, suc, ◌+◌, ◌<◌, ◌==◌, if◌then◌else◌, take, List, [], ◌∷◌, ◌++◌, codes, map, Ok, refl, sym, subst, arith, append-nil, slice_index_or, IsPermutation}
 use Rattle.std.specs.List.{AllByRecursion}
 use Rattle.std.proofs.lemmas.List.Sorted.{IsPermutation-sym, IsPermutation-refl, IsPermutation-middle}
-use Rattle.sqlite.specs.declared.types.Value.TheVariants.{Text}
+use Rattle.ci_store.specs.Prelude.{Text, value_cmp, Row, Table, Trees, Database, Executes, IsSound, IsShaped, nothing_kept, first_numbers, image, places, without, Holds, IsOf}
 use Rattle.sqlite_sql.specs.Ops.{binary}
-use Rattle.sqlite_value.specs.Order.{value_cmp}
-use Rattle.sqlite.specs.Order.{Row}
-use Rattle.sqlite.specs.Table.{Table}
-use Rattle.sqlite.specs.Tree.{Trees}
-use Rattle.sqlite.specs.Effect.{Database}
-use Rattle.sqlite.specs.State.{State as Store, Executes}
-use Rattle.sqlite_catalog.specs.Listing.{IsSound}
-use Rattle.sqlite_trees.specs.View.{IsShaped}
+use Rattle.sqlite.specs.State.{State as Store}
 use Rattle.sqlite_trees.specs.declared.store.Shape.TheVariants as shape
-use Rattle.ci_machine.specs.Kept.{nothing_kept}
-use Rattle.ci_machine.specs.State.{first_numbers}
-use Rattle.ci_store.specs.Stands.{image, places, without, Holds, IsOf}
 use Rattle.ci_store.proofs.Puts.{inserts_one}
-use Rattle.ci_store_rows.specs.declared.texts.TheConstants.{UPDATE_META, INSERT_META}
-use Rattle.ci_store_rows.specs.Schema.{the_schema, meta}
-use Rattle.ci_store_rows.specs.Stands.{meta_row, meta_rows, Stands}
-use Rattle.ci_store_rows.specs.Create.{IsBare}
+use Rattle.ci_store_rows.specs.Prelude.{UPDATE_META, INSERT_META, the_schema, meta, meta_row, meta_rows, Stands, IsBare}
 use Rattle.ci_store_rows.proofs.OneList.{alike_but}
 use Rattle.ci_store_rows.proofs.Records.{is}
 use Rattle.ci_store_rows.proofs.Meta.{sets, terms, means, gives}

@@ -1,45 +1,24 @@
 -- The statements that write `holder`.
-use Rattle.std.proofs.Common.{◌≡◌, ◌∙◌, ◌==◌, ℕ, pos, List, [], ◌∷◌, true, refl, sym, Option, ◌&&◌, map, filter, take, drop}
-use Rattle.std.specs.Ordering.{nat_cmp}
+use Rattle.std.proofs.Common.{◌≡◌, ◌∙◌, ◌==◌, ℕ, pos, List, [], ◌∷◌, true, refl, sym, Option, ◌&&◌, map, filter, take, drop, nat_cmp}
 use Rattle.std.specs.Cmp.Lexicographic.{slice_cmp}
 use Rattle.sqlite_value.specs.declared.keys.Collation.TheVariants.{Binary}
-use Rattle.sqlite_sql.specs.Ops.{is_null}
-use Rattle.sqlite_schema.specs.Rules.{equal}
-use Rattle.sqlite.specs.Cast.{cast}
-use Rattle.sqlite.specs.Kind.TheVariants.{Integer}
-use Rattle.sqlite.specs.declared.types.Value.TheVariants.{Null, Text}
-use Rattle.sqlite.specs.Order.{Row, column}
-use Rattle.sqlite.specs.Tree.{Trees}
-use Rattle.sqlite_tied.specs.Compute.{everything}
-use Rattle.sqlite.specs.Listing.{understood}
-use Rattle.sqlite.specs.Store.{Ghosts}
-use Rattle.sqlite.specs.Held.{Held, state}
+use Rattle.ci_store.specs.Prelude.{is_null, equal, cast, Integer, Null, Text, Row, column, Trees, everything, understood, Ghosts, Held, state, Kept, indexed, put, holds}
+use Rattle.ci_store.specs.Prelude.{holder_cmp, holder_at, Holder, Free, HasPut}
 use Rattle.sqlite_keyed.proofs.ListLemmas.{ascending-filter}
 use Rattle.sqlite_rules.proofs.ListLemmas.{has_got}
-use Rattle.ci_machine.specs.Kept.{Kept, indexed}
-use Rattle.ci_machine.specs.State.{put}
-use Rattle.ci_machine.specs.Eligible.{holds}
-use Rattle.ci_machine.specs.Holders.{holder_cmp, holder_at}
-use Rattle.ci_machine.specs.declared.records.Holder.{Holder}
-use Rattle.ci_machine.specs.declared.change.IndexChange.TheVariants.{Free}
-use Rattle.ci_store.specs.Statements.{HasPut}
 use Rattle.ci_store.proofs.Writes.{IsWholeStep, whole_if_alone}
 use Rattle.ci_store.proofs.Puts.{MeansPut, MeansRemove, GivesRecord}
 use Rattle.ci_store.proofs.Absent.{absent_unique}
 use Rattle.ci_store.proofs.Scalars.{cast_int}
-use Rattle.ci_store_rows.specs.declared.texts.TheConstants.{UPDATE_HOLDER, INSERT_HOLDER, DELETE_HOLDER, SELECT_HOLDER, SELECT_HOLDERS_IN, SELECT_HOLDERS_OF}
-use Rattle.ci_store_rows.specs.Schema.{the_schema, holder, holder_index_1}
-use Rattle.ci_store_rows.specs.Rows.{number, holder_row}
-use Rattle.ci_store_rows.specs.Stands.{rows_by_tree, rows_of, Stands, IsAt}
+use Rattle.ci_store_rows.specs.Prelude.{UPDATE_HOLDER, INSERT_HOLDER, DELETE_HOLDER, SELECT_HOLDER, SELECT_HOLDERS_IN, SELECT_HOLDERS_OF, the_schema, holder, holder_index_1}
+use Rattle.ci_store_rows.specs.Prelude.{number, holder_row, rows_by_tree, rows_of, Stands, IsAt, ShowsRecords, listed, in_holders, RemovesUnreferred}
 use Rattle.ci_store_rows.proofs.OneList.{IsAlike, alike_but, regular_with_holders}
 use Rattle.ci_store_rows.proofs.Lists.{put_rises, by_both}
 use Rattle.ci_store_rows.proofs.Records.{is, put_stands, same_number, finds_named}
 use Rattle.sqlite.proofs.Callers.{IsPlain}
 use Rattle.ci_store.proofs.Selects.{MeansSelect}
-use Rattle.ci_store_rows.specs.Found.{ShowsRecords, listed}
 use Rattle.ci_store_rows.proofs.Owned.{tests, sets, terms, named, same_named, unnumbered, agrees, removed_owned, owned_found}
 use Rattle.ci_store_rows.proofs.Shows.{columns_of, names_of, by, rising_text, shows_passing, found_one}
-use Rattle.ci_store_rows.specs.Changes.{in_holders, RemovesUnreferred}
 use Rattle.ci_store_rows.proofs.Removals.{Referring}
 
 means : MeansPut the_schema 11 holder UPDATE_HOLDER.now INSERT_HOLDER.now tests sets terms

@@ -1,44 +1,24 @@
 -- The statements that write `jobvar`.
-use Rattle.std.proofs.Common.{◌≡◌, ◌∙◌, ℕ, pos, List, [], ◌∷◌, is_eq, refl, inl, inr, map, take, drop}
-use Rattle.std.specs.Ordering.{nat_cmp, ordering_then}
+use Rattle.std.proofs.Common.{◌≡◌, ◌∙◌, ℕ, pos, List, [], ◌∷◌, is_eq, refl, inl, inr, map, take, drop, nat_cmp}
+use Rattle.std.specs.Ordering.{ordering_then}
 use Rattle.std.specs.Cmp.Lexicographic.{slice_cmp}
-use Rattle.sqlite_sql.specs.Ops.{is_null}
-use Rattle.sqlite.specs.Cast.{cast}
-use Rattle.sqlite.specs.Kind.TheVariants.{Integer}
-use Rattle.sqlite.specs.declared.types.Value.TheVariants.{Null, Text}
-use Rattle.sqlite.specs.Order.{Row}
-use Rattle.sqlite.specs.Term.{Term}
-use Rattle.sqlite.specs.Tree.{Trees}
-use Rattle.sqlite_tied.specs.Compute.{everything}
-use Rattle.sqlite.specs.Listing.{understood}
-use Rattle.sqlite.specs.Store.{Ghosts}
-use Rattle.sqlite.specs.Held.{Held, state}
+use Rattle.ci_store.specs.Prelude.{is_null, cast, Integer, Null, Text, Row, Term, Trees, everything, understood, Ghosts, Held, state, Kept, with_record, without_record}
+use Rattle.ci_store.specs.Prelude.{job_variable_cmp, JobVariable, Record, Key, HasPut, variables_of}
 use Rattle.sqlite_keyed.proofs.ListLemmas.{ascending-filter}
-use Rattle.ci_machine.specs.Kept.{Kept}
-use Rattle.ci_machine.specs.State.{with_record, without_record, job_variable_cmp}
-use Rattle.ci_machine.specs.declared.records.JobVariable.{JobVariable}
-use Rattle.ci_machine.specs.declared.change.Record.TheVariants as row
-use Rattle.ci_machine.specs.declared.change.Key.TheVariants as key
-use Rattle.ci_store.specs.Statements.{HasPut}
 use Rattle.ci_store.proofs.Writes.{IsWholeStep, whole_if_alone}
 use Rattle.ci_store.proofs.Puts.{MeansPut, MeansRemove, GivesRecord}
 use Rattle.ci_store.proofs.Absent.{absent_unique}
 use Rattle.ci_store.proofs.Scalars.{cast_int}
-use Rattle.ci_store_rows.specs.declared.texts.TheConstants.{UPDATE_JOB_VARIABLE, INSERT_JOB_VARIABLE, DELETE_JOB_VARIABLE, DELETE_JOB_VARIABLES, SELECT_JOB_VARIABLES}
-use Rattle.ci_store_rows.specs.Schema.{the_schema, jobvar, jobvar_index_1}
-use Rattle.ci_store_rows.specs.Rows.{number, job_variable_row}
-use Rattle.ci_store_rows.specs.Stands.{rows_by_tree, rows_of, Stands, IsAt}
+use Rattle.ci_store_rows.specs.Prelude.{UPDATE_JOB_VARIABLE, INSERT_JOB_VARIABLE, DELETE_JOB_VARIABLE, DELETE_JOB_VARIABLES, SELECT_JOB_VARIABLES, the_schema, jobvar}
+use Rattle.ci_store_rows.specs.Prelude.{jobvar_index_1, number, job_variable_row, rows_by_tree, rows_of, Stands, IsAt, ShowsRecords, in_state, RemovesUnreferred}
 use Rattle.ci_store_rows.proofs.OneList.{IsAlike, alike_but, regular_with_job_variables}
 use Rattle.ci_store_rows.proofs.Lists.{put_rises, by_both}
 use Rattle.ci_store_rows.proofs.Records.{is, put_stands, same_number}
 use Rattle.sqlite.proofs.Callers.{IsPlain}
 use Rattle.ci_store.proofs.Selects.{MeansSelect}
-use Rattle.ci_store_rows.specs.Found.{ShowsRecords}
 use Rattle.ci_store_rows.proofs.Owned.{tests, sets, terms, named, same_named, unnumbered, agrees, removed_owned, owned_found}
 use Rattle.ci_store_rows.proofs.Shows.{columns_of, names_of, by, rising_text}
-use Rattle.ci_machine.specs.Lookups.{variables_of}
 use Rattle.ci_store_rows.proofs.Removals.{Referring}
-use Rattle.ci_store_rows.specs.Changes.{in_state, RemovesUnreferred}
 
 means : MeansPut the_schema 5 jobvar UPDATE_JOB_VARIABLE.now INSERT_JOB_VARIABLE.now tests sets terms
 unfolding understood everything
@@ -59,9 +39,9 @@ alike : (k : Kept) (xs : List JobVariable) → IsAlike (rows_of k) (rows_of (rec
 alike k xs = alike_but (take 5 (rows_by_tree k)) (drop 6 (rows_by_tree k)) jobvar (map job_variable_row k.state.job_variables) (map job_variable_row xs)
 
 pub job_variable_puts : {S : Type 0} (ghosts : Ghosts S) (before after : Held S) (v : JobVariable) (k : Kept) → Stands k (state ghosts before).now → HasPut ghosts UPDATE_JOB_VARIABLE.now INSERT_JOB_VARIABLE.now (job_variable_row v) before after
-    → Stands (in_state (with_record (row.JobVariable v)) k) (state ghosts after).now
+    → Stands (in_state (with_record (Record.JobVariable v)) k) (state ghosts after).now
 job_variable_puts ghosts before after v k stands h =
-    put_stands job_variable_row k.state.job_variables k (in_state (with_record (row.JobVariable v)) k) jobvar refl (alike k _) (regular_with_job_variables k _ (put_rises job_variable_cmp (by_both (λ (q : JobVariable). q.job) (λ q. q.key)) v k.state.job_variables stands.inside.regular.job_variables) stands.inside.regular)
+    put_stands job_variable_row k.state.job_variables k (in_state (with_record (Record.JobVariable v)) k) jobvar refl (alike k _) (regular_with_job_variables k _ (put_rises job_variable_cmp (by_both (λ (q : JobVariable). q.job) (λ q. q.key)) v k.state.job_variables stands.inside.regular.job_variables) stands.inside.regular)
     5 UPDATE_JOB_VARIABLE.now INSERT_JOB_VARIABLE.now tests sets terms means job_variable_cmp (named v.job v.key) v (gives v) (λ q. same_named v.job v.key q.job q.key) refl ghosts before after stands h
 
 means_remove : MeansRemove the_schema 5 jobvar DELETE_JOB_VARIABLE.now tests
@@ -72,9 +52,9 @@ whole : (asked : List Term) (params : Row) (db : Trees) → IsWholeStep the_sche
 unfolding everything
 whole asked params db = whole_if_alone the_schema jobvar asked params db (λ olds. refl)
 
-pub job_variable_removed : {S : Type 0} (g : Ghosts S) (old new : Held S) (id : ℕ) (name : List ℕ) (k : Kept) → Stands k (state g old).now → RemovesUnreferred g [] DELETE_JOB_VARIABLE.now (named id name) old new → Stands (in_state (without_record (key.JobVariable id name)) k) (state g new).now
+pub job_variable_removed : {S : Type 0} (g : Ghosts S) (old new : Held S) (id : ℕ) (name : List ℕ) (k : Kept) → Stands k (state g old).now → RemovesUnreferred g [] DELETE_JOB_VARIABLE.now (named id name) old new → Stands (in_state (without_record (Key.JobVariable id name)) k) (state g new).now
 job_variable_removed g old new id name k =
-    removed_owned g old new job_variable_row 5 jobvar tests (λ q. is_eq (ordering_then (nat_cmp q.job id) (slice_cmp nat_cmp q.key name))) k.state.job_variables (named id name) k (in_state (without_record (key.JobVariable id name)) k) refl refl (alike k _) (λ o. regular_with_job_variables k _ (ascending-filter _ _ k.state.job_variables o.job_variables) o) (λ q. same_named id name q.job q.key) (λ r. refl)
+    removed_owned g old new job_variable_row 5 jobvar tests (λ q. is_eq (ordering_then (nat_cmp q.job id) (slice_cmp nat_cmp q.key name))) k.state.job_variables (named id name) k (in_state (without_record (Key.JobVariable id name)) k) refl refl (alike k _) (λ o. regular_with_job_variables k _ (ascending-filter _ _ k.state.job_variables o.job_variables) o) (λ q. same_named id name q.job q.key) (λ r. refl)
     DELETE_JOB_VARIABLE.now means_remove (whole tests)
 
 -- all variables of a job
@@ -82,9 +62,9 @@ means_remove_all : MeansRemove the_schema 5 jobvar DELETE_JOB_VARIABLES.now (is 
 unfolding understood everything
 means_remove_all = record { there = refl; apart = refl; delete_is = refl; delete_plain = (refl, refl) }
 
-pub job_variables_removed : {S : Type 0} (g : Ghosts S) (old new : Held S) (job : ℕ) (k : Kept) → Stands k (state g old).now → RemovesUnreferred g [] DELETE_JOB_VARIABLES.now (number job ∷ []) old new → Stands (in_state (without_record (key.JobVariables job)) k) (state g new).now
+pub job_variables_removed : {S : Type 0} (g : Ghosts S) (old new : Held S) (job : ℕ) (k : Kept) → Stands k (state g old).now → RemovesUnreferred g [] DELETE_JOB_VARIABLES.now (number job ∷ []) old new → Stands (in_state (without_record (Key.JobVariables job)) k) (state g new).now
 job_variables_removed g old new job k =
-    removed_owned g old new job_variable_row 5 jobvar (is 1 0 ∷ []) (λ q. is_eq (nat_cmp q.job job)) k.state.job_variables (number job ∷ []) k (in_state (without_record (key.JobVariables job)) k) refl refl (alike k _) (λ o. regular_with_job_variables k _ (ascending-filter _ _ k.state.job_variables o.job_variables) o) (λ q. same_number q.job job) (λ r. refl)
+    removed_owned g old new job_variable_row 5 jobvar (is 1 0 ∷ []) (λ q. is_eq (nat_cmp q.job job)) k.state.job_variables (number job ∷ []) k (in_state (without_record (Key.JobVariables job)) k) refl refl (alike k _) (λ o. regular_with_job_variables k _ (ascending-filter _ _ k.state.job_variables o.job_variables) o) (λ q. same_number q.job job) (λ r. refl)
     DELETE_JOB_VARIABLES.now means_remove_all (whole (is 1 0 ∷ []))
 
 -- ---- two records with the same row

@@ -1,59 +1,30 @@
 -- The statements that write `job`.
 use Rattle.std.proofs.Common.{◌≡◌, ◌∙◌, ℕ, pos, List, [], ◌∷◌, ◌++◌, if◌then◌else◌, cond, Some, None, refl, ap, ◌==◌, ◌&&◌, true, Option, sym, map, take, drop, codes, inl, inr, nat_lt}
-use Rattle.sqlite.specs.declared.types.Value.TheVariants.{Null, Text}
-use Rattle.sqlite.specs.Order.{Row, column}
-use Rattle.sqlite.specs.Term.{Term, lit, col}
-use Rattle.sqlite_tied.specs.Compute.{everything}
-use Rattle.sqlite.specs.Listing.{understood}
-use Rattle.sqlite.specs.Store.{Ghosts}
-use Rattle.sqlite.specs.Held.{Held, state}
+use Rattle.ci_store.specs.Prelude.{Null, Text, Row, column, Term, lit, col, everything, understood, Ghosts, Held, state, Gt, Kept, with_record, without_record, job_cmp, Job}
+use Rattle.ci_store.specs.Prelude.{Record, Key, image, places, HasPut, jobs_of, job_at, equal, Has, plain, joined, Enforced, Work, works, pairs, loses}
 use Rattle.sqlite_keyed.proofs.ListLemmas.{ascending-filter, all-filter}
-use Rattle.sqlite_sql.specs.declared.ops.CompareOp.TheVariants.{Gt}
-use Rattle.ci_machine.specs.Kept.{Kept}
-use Rattle.ci_machine.specs.State.{with_record, without_record, job_cmp}
-use Rattle.ci_machine.specs.declared.records.Job.{Job}
-use Rattle.ci_machine.specs.declared.change.Record.TheVariants as row
-use Rattle.ci_machine.specs.declared.change.Key.TheVariants as key
-use Rattle.ci_store.specs.Stands.{image, places}
-use Rattle.ci_store.specs.Statements.{HasPut}
 use Rattle.ci_store.proofs.Puts.{MeansPut, MeansRemove, GivesRecord}
 use Rattle.ci_store.proofs.Absent.{absent_rowid}
 use Rattle.ci_store.proofs.Childless.{cascade}
 use Rattle.ci_store.proofs.Scalars.{cast_int, compares}
-use Rattle.ci_store_rows.specs.declared.texts.TheConstants.{UPDATE_JOB, INSERT_JOB, DELETE_JOB, SELECT_JOB, SELECT_JOBS_OF, SELECT_JOBS_ABOVE}
-use Rattle.ci_store_rows.specs.declared.columns.TheConstants.{LAST_INTEGER}
-use Rattle.ci_store_rows.specs.Schema.{the_schema, job, need}
-use Rattle.ci_store_rows.specs.JsonText.{spec_text, spec_data}
+use Rattle.ci_store_rows.specs.Prelude.{UPDATE_JOB, INSERT_JOB, DELETE_JOB, SELECT_JOB, SELECT_JOBS_OF, SELECT_JOBS_ABOVE, LAST_INTEGER, the_schema, job, need, spec_text}
+use Rattle.ci_store_rows.specs.Prelude.{spec_data, number, job_row, rows_by_tree, rows_of, IsRegular, Stands, IsAt, ShowsRecords, listed, FindsNumber, IsJobRow, in_state}
+use Rattle.ci_store_rows.specs.Prelude.{RemovesUnreferred, flag, job_cells, ReadsSpec}
 use Rattle.serde_json.specs.Read.{read}
-use Rattle.ci_store_rows.specs.Rows.{number, job_row}
-use Rattle.ci_store_rows.specs.Stands.{rows_by_tree, rows_of, IsRegular, Stands, IsAt}
 use Rattle.ci_store_rows.proofs.OneList.{IsAlike, alike_but, regular_with_jobs}
 use Rattle.ci_store_rows.proofs.Lists.{put_rises, by_number, all_put}
 use Rattle.ci_store_rows.proofs.Records.{is, put_stands, same_number, finds_number, numbered, above, finds_beyond}
 use Rattle.sqlite.specs.Collation.TheVariants.{Binary}
-use Rattle.sqlite_schema.specs.Rules.{equal}
 use Rattle.sqlite.proofs.Callers.{IsPlain}
 use Rattle.ci_store.proofs.Selects.{MeansSelect}
-use Rattle.ci_store_rows.specs.Found.{ShowsRecords, listed, FindsNumber}
-use Rattle.sqlite_rules.specs.Lists.{Has}
 use Rattle.sqlite_rules.proofs.ListLemmas.{all_has}
-use Rattle.ci_machine.specs.Statuses.{jobs_of}
-use Rattle.ci_machine.specs.Lookups.{job_at}
-use Rattle.ci_store_rows.specs.Load.{IsJobRow}
 use Rattle.ci_store_rows.proofs.Shows.{columns_of, names_of, by, shows_passing, shows_sorted, found_one, found_all, rising_numbers, found_none}
 use Rattle.std.specs.List.{list_any, cons_option}
-use Rattle.sqlite_value.specs.Keys.{plain, joined}
-use Rattle.sqlite_schema.specs.declared.schema.Keys.TheVariants.{Enforced}
-use Rattle.sqlite_rules.specs.Action.{Work, works, pairs, loses}
-use Rattle.ci_store_rows.specs.Changes.{in_state, RemovesUnreferred}
 use Rattle.ci_store_rows.proofs.Removals.{Referring, queries, cascades, twice, removed_numbered}
 use Rattle.ci_store_rows.proofs.JobVariables.{refers_to_job as variables_refer}
 use Rattle.ci_store_rows.proofs.Attempts.{refers_to_job as attempts_refer}
 use Rattle.ci_store_rows.proofs.Needs.{needs_refer, needed_refer}
 use Rattle.ci_store_rows.proofs.Board.{rows_refer}
-use Rattle.ci_store_rows.specs.Rows.{flag}
-use Rattle.ci_store_rows.specs.Load.{job_cells}
-use Rattle.ci_store_rows.specs.Reads.{ReadsSpec}
 use Rattle.ci_store_rows.proofs.Same.{same_flag}
 
 abbrev sets : List Term
@@ -77,9 +48,9 @@ alike : (k : Kept) (xs : List Job) → IsAlike (rows_of k) (rows_of (record k { 
 alike k xs = alike_but (take 4 (rows_by_tree k)) (drop 5 (rows_by_tree k)) job (map job_row k.state.jobs) (map job_row xs)
 
 pub job_puts : {S : Type 0} (ghosts : Ghosts S) (before after : Held S) (j : Job) (k : Kept) → read (spec_text j.options) ≡ Some (spec_data j.options) → Stands k (state ghosts before).now → HasPut ghosts UPDATE_JOB.now INSERT_JOB.now (job_row j) before after
-    → Stands (in_state (with_record (row.Job j)) k) (state ghosts after).now
+    → Stands (in_state (with_record (Record.Job j)) k) (state ghosts after).now
 job_puts ghosts before after j k spec_back stands h =
-    put_stands job_row k.state.jobs k (in_state (with_record (row.Job j)) k) job refl (alike k _) (regular_with_jobs k _ (put_rises job_cmp (by_number (λ (q : Job). q.id)) j k.state.jobs stands.inside.regular.jobs) (all_put job_cmp _ j k.state.jobs spec_back stands.inside.regular.specs) stands.inside.regular)
+    put_stands job_row k.state.jobs k (in_state (with_record (Record.Job j)) k) job refl (alike k _) (regular_with_jobs k _ (put_rises job_cmp (by_number (λ (q : Job). q.id)) j k.state.jobs stands.inside.regular.jobs) (all_put job_cmp _ j k.state.jobs spec_back stands.inside.regular.specs) stands.inside.regular)
     4 UPDATE_JOB.now INSERT_JOB.now (is 0 0 ∷ []) sets sets means job_cmp (number j.id ∷ []) j (gives j) (λ q. same_number q.id j.id) refl ghosts before after stands h
 
 means_remove : MeansRemove the_schema 4 job DELETE_JOB.now (is 0 0 ∷ [])
@@ -94,9 +65,9 @@ works_are olds =
     let of : Referring → List Work = λ r. cons_option (cond loses_some (Some (cascade r.child r.place (codes "job") olds)) None) [] in
     ap (λ l. of variables_refer ++ (of attempts_refer ++ l)) (twice loses_some (cascade need 1 (codes "job") olds) (cascade need 2 (codes "job") olds) (of rows_refer ++ []))
 
-pub job_removed : {S : Type 0} (g : Ghosts S) (old new : Held S) (id : ℕ) (k : Kept) → Stands k (state g old).now → RemovesUnreferred g (queries (variables_refer ∷ attempts_refer ∷ needs_refer ∷ needed_refer ∷ rows_refer ∷ [])) DELETE_JOB.now (number id ∷ []) old new → Stands (in_state (without_record (key.Job id)) k) (state g new).now
+pub job_removed : {S : Type 0} (g : Ghosts S) (old new : Held S) (id : ℕ) (k : Kept) → Stands k (state g old).now → RemovesUnreferred g (queries (variables_refer ∷ attempts_refer ∷ needs_refer ∷ needed_refer ∷ rows_refer ∷ [])) DELETE_JOB.now (number id ∷ []) old new → Stands (in_state (without_record (Key.Job id)) k) (state g new).now
 job_removed g old new id k =
-    removed_numbered g old new job_row (λ q. q.id) k.state.jobs id k (in_state (without_record (key.Job id)) k) 4 job refl refl refl (alike k _) (λ o. regular_with_jobs k _ (ascending-filter _ _ k.state.jobs o.jobs) (all-filter _ _ k.state.jobs o.specs) o) (λ q. same_number q.id id) (λ r. refl)
+    removed_numbered g old new job_row (λ q. q.id) k.state.jobs id k (in_state (without_record (Key.Job id)) k) 4 job refl refl refl (alike k _) (λ o. regular_with_jobs k _ (ascending-filter _ _ k.state.jobs o.jobs) (all-filter _ _ k.state.jobs o.specs) o) (λ q. same_number q.id id) (λ r. refl)
     DELETE_JOB.now means_remove (codes "job") (variables_refer ∷ attempts_refer ∷ needs_refer ∷ needed_refer ∷ rows_refer ∷ []) works_are (λ e. absurd cc, (λ e. absurd cc, (λ e. absurd cc, (λ e. absurd cc, (λ e. absurd cc, tt)))))
 
 -- ---- two records with the same row

@@ -4,19 +4,12 @@ use Rattle.std.specs.List.{list_any}
 use Rattle.serde_json.specs.Data.{Data, array, string}
 use Rattle.serde_json.specs.Find.{get}
 use Rattle.serde_json.specs.View.{items_of}
-use Rattle.ci_values.specs.declared.attempts.Cause.{Cause}
-use Rattle.ci_values.specs.declared.attempts.Cause.TheVariants.{UnknownFailure, ScriptFailure, ApiFailure, StuckOrTimeoutFailure, RunnerSystemFailure, JobExecutionTimeout}
-use Rattle.ci_values.specs.declared.when.Causes.{Causes}
-use Rattle.ci_values.specs.Attempts.{has_cause}
+use Rattle.ci_machine.specs.Prelude.{Cause, UnknownFailure, ScriptFailure, ApiFailure, StuckOrTimeoutFailure, RunnerSystemFailure, JobExecutionTimeout, Causes, has_cause, When}
+use Rattle.ci_machine.specs.Prelude.{OnSuccess, OnFailure, Always, Manual, AllowFailure, No, Yes, ExitCodes}
 use Rattle.serde_json.specs.Read.{read}
-use Rattle.ci_values.specs.declared.when.When.{When}
-use Rattle.ci_values.specs.declared.when.When.TheVariants.{OnSuccess, OnFailure, Always, Manual}
-use Rattle.ci_values.specs.declared.when.AllowFailure.{AllowFailure}
-use Rattle.ci_values.specs.declared.when.AllowFailure.TheVariants.{No, Yes, ExitCodes}
-use Rattle.ci_machine.specs.declared.records.JobOptions.{JobOptions}
-use Rattle.ci_machine.specs.declared.records.Demand.{Demand}
-use Rattle.ci_store_rows.specs.JsonText.{strings, numbers, group_data, allow_data, when_text, cause_text, every_cause, causes_data, list_data, spec_data}
-use Rattle.ci_store_rows.specs.Reads.{ReadsList, ReadsSpec, ReadsDemand, is_text}
+use Rattle.ci_store.specs.Prelude.{JobOptions, Demand}
+use Rattle.ci_store_rows.specs.Prelude.{strings, numbers, group_data, allow_data, when_text, cause_text, every_cause, causes_data, list_data, spec_data, ReadsList, ReadsSpec}
+use Rattle.ci_store_rows.specs.Prelude.{ReadsDemand, is_text}
 
 pub same_strings : (xs ys : List (List ℕ)) → strings xs ≡ strings ys → xs ≡ ys
 same_strings [] [] h = refl

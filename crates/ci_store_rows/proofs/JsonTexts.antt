@@ -6,12 +6,9 @@ use Rattle.serde_json.specs.Data.{Data, string, number, unsigned, depth, items_d
 use Rattle.serde_json.specs.Read.{read, max_depth}
 use Rattle.serde_json.specs.View.{items_of}
 use Rattle.serde_json.specs.Written.{compact_text, has_float, items_have_float}
-use Rattle.ci_values.specs.declared.when.AllowFailure.{AllowFailure}
-use Rattle.ci_values.specs.declared.when.AllowFailure.TheVariants.{No, Yes, ExitCodes}
-use Rattle.ci_values.specs.declared.when.Retry.{Retry}
-use Rattle.ci_values.specs.Attempts.{has_cause}
-use Rattle.ci_machine.specs.declared.records.JobOptions.{JobOptions}
-use Rattle.ci_store_rows.specs.JsonText.{cause_text, every_cause, allow_data, group_data, retry_data, spec_data}
+use Rattle.ci_machine.specs.Prelude.{AllowFailure, No, Yes, ExitCodes, Retry, has_cause}
+use Rattle.ci_store.specs.Prelude.{JobOptions}
+use Rattle.ci_store_rows.specs.Prelude.{cause_text, every_cause, allow_data, group_data, retry_data, spec_data}
 
 -- texts hold no float, nor do whole numbers
 pub no_float : (texts : List (List ℕ)) → items_have_float (items_of (map string texts)) ≡ false

@@ -1,16 +1,15 @@
 -- A list of records after a change, and the list of their rows.
-use Rattle.std.proofs.Common.{◌≡◌, ℕ, List, [], ◌∷◌, map, filter, Bool, true, false, not, cond, Ordering, Less, Equal, Greater, refl, sym, ap, subst, ◌∙◌, IsPermutation, is_eq, is_lt}
+use Rattle.std.proofs.Common.{◌≡◌, ℕ, List, [], ◌∷◌, map, filter, Bool, true, false, not, cond, Ordering, Less, Equal, Greater, refl, sym, ap, subst, ◌∙◌, IsPermutation, is_eq}
+use Rattle.std.proofs.Common.{is_lt, nat_cmp}
 use Rattle.std.specs.List.{AllByRecursion}
-use Rattle.std.specs.Ordering.{nat_cmp, ordering_then, ordering_reverse}
+use Rattle.std.specs.Ordering.{ordering_then, ordering_reverse}
 use Rattle.std.specs.Cmp.{IsTotalOrder}
 use Rattle.std.specs.Cmp.Lexicographic.{slice_cmp}
 use Rattle.std.proofs.lemmas.Cmp.{on_total, then_total, nat_list_cmp_total, nat_cmp_total}
 use Rattle.std.proofs.lemmas.List.Sorted.{IsPermutation-map, IsPermutation-refl, IsPermutation-sym, IsPermutation-cons, IsPermutation-trans, IsPermutation-middle}
-use Rattle.sqlite.specs.Order.{Row}
+use Rattle.ci_store.specs.Prelude.{Row, has_key, without, placed, others, put}
 use Rattle.sqlite_keyed.proofs.ListLemmas.{filter-map, filter_same, IsPermutation-same, ascending-filter, all_weaker, all-filter}
-use Rattle.ci_store.specs.Stands.{has_key, without}
-use Rattle.ci_machine.specs.State.{placed, others, put}
-use Rattle.ci_store_rows.specs.Stands.{Rises}
+use Rattle.ci_store_rows.specs.Prelude.{Rises}
 
 module _ {X : Type 0} (values : X → Row) (key : Row) where
   pub without_is : (test : X → Bool) → ((y : X) → has_key key (values y) ≡ test y) → (xs : List X) → without key (map values xs) ≡ map values (filter (λ y. not (test y)) xs)

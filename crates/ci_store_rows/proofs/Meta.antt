@@ -1,35 +1,15 @@
 -- The statements that write `meta`.
 use Rattle.std.proofs.Common.{◌≡◌, ◌∙◌, ℕ, pos, List, [], ◌∷◌, codes, Bool, true, false, ◌&&◌, cond, refl, sym, inl, IsPermutation, drop}
 use Rattle.std.proofs.lemmas.List.Sorted.{IsPermutation-sym, IsPermutation-middle}
-use Rattle.sqlite.specs.declared.types.Value.{Value}
-use Rattle.sqlite.specs.declared.types.Value.TheVariants.{Null, Text}
+use Rattle.ci_store.specs.Prelude.{Value, Null, Text, plain, is_null, value_cmp, equal, agree, Row, column, Term, lit, col, cast, Integer, everything, understood, Ghosts, Held}
+use Rattle.ci_store.specs.Prelude.{state, Kept, with_next, Numbers, Counter, image, places, without, Changes}
 use Rattle.sqlite_value.specs.declared.keys.Collation.TheVariants.{Binary}
-use Rattle.sqlite_value.specs.Keys.{plain}
 use Rattle.sqlite_value.proofs.KeyLemmas.{first_key-plain}
-use Rattle.sqlite_sql.specs.Ops.{is_null, binary}
-use Rattle.sqlite_value.specs.Order.{value_cmp}
-use Rattle.sqlite_schema.specs.Rules.{equal, agree}
-use Rattle.sqlite.specs.Order.{Row, column}
-use Rattle.sqlite.specs.Term.{Term, lit, col}
-use Rattle.sqlite.specs.Cast.{cast}
-use Rattle.sqlite.specs.Kind.TheVariants.{Integer}
-use Rattle.sqlite_tied.specs.Compute.{everything}
-use Rattle.sqlite.specs.Listing.{understood}
-use Rattle.sqlite.specs.Store.{Ghosts}
-use Rattle.sqlite.specs.Held.{Held, state}
-use Rattle.ci_machine.specs.Kept.{Kept}
-use Rattle.ci_machine.specs.State.{with_next}
-use Rattle.ci_machine.specs.declared.records.Numbers.{Numbers}
-use Rattle.ci_machine.specs.declared.change.Counter.{Counter}
-use Rattle.ci_machine.specs.declared.change.Counter.TheVariants as counter
-use Rattle.ci_store.specs.Stands.{image, places, without}
-use Rattle.ci_store.specs.Statements.{Changes}
+use Rattle.sqlite_sql.specs.Ops.{binary}
 use Rattle.ci_store.proofs.Puts.{MeansPut, GivesRecord, updates_one}
 use Rattle.ci_store.proofs.Absent.{absent_unique}
 use Rattle.ci_store.proofs.Scalars.{cast_int}
-use Rattle.ci_store_rows.specs.declared.texts.TheConstants.{UPDATE_META, INSERT_META}
-use Rattle.ci_store_rows.specs.Schema.{the_schema, meta, meta_index_1}
-use Rattle.ci_store_rows.specs.Stands.{meta_row, meta_rows, counter_key, rows_by_tree, rows_of, Stands}
+use Rattle.ci_store_rows.specs.Prelude.{UPDATE_META, INSERT_META, the_schema, meta, meta_index_1, meta_row, meta_rows, counter_key, rows_by_tree, rows_of, Stands}
 use Rattle.ci_store_rows.proofs.OneList.{alike_but, regular_with_next}
 use Rattle.ci_store_rows.proofs.Records.{is, before_it, after_it}
 
@@ -62,14 +42,14 @@ gives key num = record {
 
 moved : (c : Counter) (n : ℕ) (next : Numbers) → IsPermutation (meta_row (counter_key c) n ∷ without (Text (counter_key c) ∷ []) (meta_rows next)) (meta_rows (with_next c n next))
 unfolding binary value_cmp lib.Ieee.is_nan lib.Ieee.lt
-moved counter.Project n next = IsPermutation-sym _ _ (IsPermutation-middle (meta_row (codes "format") 1128878163 ∷ meta_row (codes "version") 2 ∷ []) _ _)
-moved counter.Runner n next = IsPermutation-sym _ _ (IsPermutation-middle (meta_row (codes "format") 1128878163 ∷ meta_row (codes "version") 2 ∷ meta_row (codes "next_project") next.project ∷ []) _ _)
-moved counter.Pipeline n next =
+moved Counter.Project n next = IsPermutation-sym _ _ (IsPermutation-middle (meta_row (codes "format") 1128878163 ∷ meta_row (codes "version") 2 ∷ []) _ _)
+moved Counter.Runner n next = IsPermutation-sym _ _ (IsPermutation-middle (meta_row (codes "format") 1128878163 ∷ meta_row (codes "version") 2 ∷ meta_row (codes "next_project") next.project ∷ []) _ _)
+moved Counter.Pipeline n next =
     IsPermutation-sym _ _ (IsPermutation-middle (meta_row (codes "format") 1128878163 ∷ meta_row (codes "version") 2 ∷ meta_row (codes "next_project") next.project ∷ meta_row (codes "next_runner") next.runner ∷ []) _ _)
-moved counter.Job n next =
+moved Counter.Job n next =
     IsPermutation-sym _ _
     (IsPermutation-middle (meta_row (codes "format") 1128878163 ∷ meta_row (codes "version") 2 ∷ meta_row (codes "next_project") next.project ∷ meta_row (codes "next_runner") next.runner ∷ meta_row (codes "next_pipeline") next.pipeline ∷ []) _ _)
-moved counter.Attempt n next =
+moved Counter.Attempt n next =
     IsPermutation-sym _ _
     (IsPermutation-middle
     (meta_row (codes "format") 1128878163 ∷ meta_row (codes "version") 2 ∷ meta_row (codes "next_project") next.project ∷ meta_row (codes "next_runner") next.runner ∷ meta_row (codes "next_pipeline") next.pipeline

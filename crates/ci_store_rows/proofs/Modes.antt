@@ -1,49 +1,26 @@
 -- The statements that write `mode`.
-use Rattle.std.proofs.Common.{◌≡◌, ◌∙◌, ℕ, pos, List, [], ◌∷◌, true, is_eq, refl, sym, Option, ◌&&◌, map, take, drop}
-use Rattle.std.specs.Ordering.{nat_cmp, ordering_then}
+use Rattle.std.proofs.Common.{◌≡◌, ◌∙◌, ℕ, pos, List, [], ◌∷◌, true, is_eq, refl, sym, Option, ◌&&◌, map, take, drop, nat_cmp}
+use Rattle.std.specs.Ordering.{ordering_then}
 use Rattle.std.specs.Cmp.Lexicographic.{slice_cmp}
 use Rattle.sqlite_value.specs.declared.keys.Collation.TheVariants.{Binary}
-use Rattle.sqlite_sql.specs.Ops.{is_null}
-use Rattle.sqlite_schema.specs.Rules.{equal}
-use Rattle.sqlite.specs.Cast.{cast}
-use Rattle.sqlite.specs.Kind.TheVariants.{Integer}
-use Rattle.sqlite.specs.declared.types.Value.TheVariants.{Null, Text}
-use Rattle.sqlite.specs.Order.{Row, column}
-use Rattle.sqlite.specs.Tree.{Trees}
-use Rattle.sqlite_tied.specs.Compute.{everything}
-use Rattle.sqlite.specs.Listing.{understood}
-use Rattle.sqlite.specs.Store.{Ghosts}
-use Rattle.sqlite.specs.Held.{Held, state}
+use Rattle.ci_store.specs.Prelude.{is_null, equal, cast, Integer, Null, Text, Row, column, Trees, everything, understood, Ghosts, Held, state, Kept, with_record, without_record}
+use Rattle.ci_store.specs.Prelude.{mode_cmp, is_mode_of, mode_at, GroupMode, GroupOrder, OldestFirst, NewestReadyFirst, Record, Key, HasPut}
 use Rattle.sqlite_keyed.proofs.ListLemmas.{ascending-filter, ascending_weaker}
 use Rattle.sqlite_rules.proofs.ListLemmas.{has_got}
-use Rattle.ci_machine.specs.Kept.{Kept}
-use Rattle.ci_machine.specs.State.{with_record, without_record, mode_cmp}
-use Rattle.ci_machine.specs.Groups.{is_mode_of}
-use Rattle.ci_machine.specs.Waiting.{mode_at}
-use Rattle.ci_machine.specs.declared.records.GroupMode.{GroupMode}
-use Rattle.ci_machine.specs.declared.records.GroupOrder.{GroupOrder}
-use Rattle.ci_machine.specs.declared.records.GroupOrder.TheVariants.{OldestFirst, NewestReadyFirst}
-use Rattle.ci_machine.specs.declared.change.Record.TheVariants as row
-use Rattle.ci_machine.specs.declared.change.Key.TheVariants as key
-use Rattle.ci_store.specs.Statements.{HasPut}
 use Rattle.ci_store.proofs.Queries.{no_limit}
 use Rattle.ci_store.proofs.Writes.{IsWholeStep, whole_if_alone}
 use Rattle.ci_store.proofs.Puts.{MeansPut, MeansRemove, GivesRecord}
 use Rattle.ci_store.proofs.Absent.{absent_unique}
 use Rattle.ci_store.proofs.Scalars.{cast_int}
-use Rattle.ci_store_rows.specs.declared.texts.TheConstants.{UPDATE_MODE, INSERT_MODE, DELETE_MODE, SELECT_MODE, SELECT_MODES}
-use Rattle.ci_store_rows.specs.Schema.{the_schema, mode, mode_index_1}
-use Rattle.ci_store_rows.specs.Rows.{number, order_number, mode_row}
-use Rattle.ci_store_rows.specs.Stands.{rows_by_tree, rows_of, Stands, IsAt}
+use Rattle.ci_store_rows.specs.Prelude.{UPDATE_MODE, INSERT_MODE, DELETE_MODE, SELECT_MODE, SELECT_MODES, the_schema, mode, mode_index_1, number, order_number, mode_row}
+use Rattle.ci_store_rows.specs.Prelude.{rows_by_tree, rows_of, Stands, IsAt, ShowsRecords, listed, in_state, RemovesUnreferred}
 use Rattle.ci_store_rows.proofs.OneList.{IsAlike, alike_but, regular_with_modes}
 use Rattle.ci_store_rows.proofs.Lists.{put_rises, by_both}
 use Rattle.ci_store_rows.proofs.Records.{put_stands, finds_named}
 use Rattle.sqlite.proofs.Callers.{IsPlain}
 use Rattle.ci_store.proofs.Selects.{MeansSelect}
-use Rattle.ci_store_rows.specs.Found.{ShowsRecords, listed}
 use Rattle.ci_store_rows.proofs.Owned.{tests, sets, terms, named, same_named, unnumbered, agrees, removed_owned}
 use Rattle.ci_store_rows.proofs.Shows.{columns_of, names_of, by_two, by_two_total, pair_of_two, shows_passing, shows_ordered, found_one, found_all, rising_named, every}
-use Rattle.ci_store_rows.specs.Changes.{in_state, RemovesUnreferred}
 
 means : MeansPut the_schema 12 mode UPDATE_MODE.now INSERT_MODE.now tests sets terms
 unfolding understood everything
@@ -64,9 +41,9 @@ alike : (k : Kept) (xs : List GroupMode) → IsAlike (rows_of k) (rows_of (recor
 alike k xs = alike_but (take 12 (rows_by_tree k)) (drop 13 (rows_by_tree k)) mode (map mode_row k.state.modes) (map mode_row xs)
 
 pub mode_puts : {S : Type 0} (ghosts : Ghosts S) (before after : Held S) (m : GroupMode) (k : Kept) → Stands k (state ghosts before).now → HasPut ghosts UPDATE_MODE.now INSERT_MODE.now (mode_row m) before after
-    → Stands (in_state (with_record (row.Mode m)) k) (state ghosts after).now
+    → Stands (in_state (with_record (Record.Mode m)) k) (state ghosts after).now
 mode_puts ghosts before after m k stands h =
-    put_stands mode_row k.state.modes k (in_state (with_record (row.Mode m)) k) mode refl (alike k _) (regular_with_modes k _ (put_rises mode_cmp (by_both (λ (q : GroupMode). q.project) (λ q. q.group)) m k.state.modes stands.inside.regular.modes) stands.inside.regular)
+    put_stands mode_row k.state.modes k (in_state (with_record (Record.Mode m)) k) mode refl (alike k _) (regular_with_modes k _ (put_rises mode_cmp (by_both (λ (q : GroupMode). q.project) (λ q. q.group)) m k.state.modes stands.inside.regular.modes) stands.inside.regular)
     12 UPDATE_MODE.now INSERT_MODE.now tests sets terms means mode_cmp (named m.project m.group) m (gives m) (λ q. same_named m.project m.group q.project q.group) refl ghosts before after stands h
 
 means_remove : MeansRemove the_schema 12 mode DELETE_MODE.now tests
@@ -77,9 +54,9 @@ whole : (params : Row) (db : Trees) → IsWholeStep the_schema mode tests params
 unfolding everything
 whole params db = whole_if_alone the_schema mode tests params db (λ olds. refl)
 
-pub mode_removed : {S : Type 0} (g : Ghosts S) (old new : Held S) (project : ℕ) (group : List ℕ) (k : Kept) → Stands k (state g old).now → RemovesUnreferred g [] DELETE_MODE.now (named project group) old new → Stands (in_state (without_record (key.Mode project group)) k) (state g new).now
+pub mode_removed : {S : Type 0} (g : Ghosts S) (old new : Held S) (project : ℕ) (group : List ℕ) (k : Kept) → Stands k (state g old).now → RemovesUnreferred g [] DELETE_MODE.now (named project group) old new → Stands (in_state (without_record (Key.Mode project group)) k) (state g new).now
 mode_removed g old new project group k =
-    removed_owned g old new mode_row 12 mode tests (λ q. is_eq (ordering_then (nat_cmp q.project project) (slice_cmp nat_cmp q.group group))) k.state.modes (named project group) k (in_state (without_record (key.Mode project group)) k) refl refl (alike k _) (λ o. regular_with_modes k _ (ascending-filter _ _ k.state.modes o.modes) o) (λ q. same_named project group q.project q.group) (λ r. refl)
+    removed_owned g old new mode_row 12 mode tests (λ q. is_eq (ordering_then (nat_cmp q.project project) (slice_cmp nat_cmp q.group group))) k.state.modes (named project group) k (in_state (without_record (Key.Mode project group)) k) refl refl (alike k _) (λ o. regular_with_modes k _ (ascending-filter _ _ k.state.modes o.modes) o) (λ q. same_named project group q.project q.group) (λ r. refl)
     DELETE_MODE.now means_remove whole
 
 -- ---- two records with the same row

@@ -1,45 +1,20 @@
 -- The statements that write `need`.
-use Rattle.std.proofs.Common.{◌≡◌, ◌∙◌, ℕ, pos, List, [], ◌∷◌, map, take, drop, Bool, true, false, ◌&&◌, cond, is_eq, refl, sym, inl, inr}
-use Rattle.std.specs.Ordering.{nat_cmp, ordering_then}
+use Rattle.std.proofs.Common.{◌≡◌, ◌∙◌, ℕ, pos, List, [], ◌∷◌, map, take, drop, Bool, true, false, ◌&&◌, cond, is_eq, refl, sym, inl, inr, nat_cmp}
+use Rattle.std.specs.Ordering.{ordering_then}
 use Rattle.sqlite_value.specs.declared.keys.Collation.TheVariants.{Binary}
-use Rattle.sqlite_value.specs.Keys.{plain}
+use Rattle.ci_store.specs.Prelude.{plain, is_null, Le, Ge, equal, agree, cast, Integer, Value, Null, Row, column, Term, lit, col, Trees, everything, understood, Ghosts, Held}
+use Rattle.ci_store.specs.Prelude.{state, Kept, with_record, without_record, need_cmp, is_within, needs_within, Need, Record, Key, image, HasPut}
 use Rattle.sqlite_value.proofs.KeyLemmas.{first_key-plain}
-use Rattle.sqlite_sql.specs.Ops.{is_null}
-use Rattle.sqlite_sql.specs.declared.ops.CompareOp.TheVariants.{Le, Ge}
-use Rattle.sqlite_schema.specs.Rules.{equal, agree}
-use Rattle.sqlite.specs.Cast.{cast}
-use Rattle.sqlite.specs.Kind.TheVariants.{Integer}
-use Rattle.sqlite.specs.declared.types.Value.{Value}
-use Rattle.sqlite.specs.declared.types.Value.TheVariants.{Null}
-use Rattle.sqlite.specs.Order.{Row, column}
-use Rattle.sqlite.specs.Term.{Term, lit, col}
-use Rattle.sqlite.specs.Tree.{Trees}
-use Rattle.sqlite_tied.specs.Compute.{everything}
-use Rattle.sqlite.specs.Listing.{understood}
-use Rattle.sqlite.specs.Store.{Ghosts}
-use Rattle.sqlite.specs.Held.{Held, state}
 use Rattle.sqlite.proofs.Callers.{IsPlain}
 use Rattle.sqlite_keyed.proofs.ListLemmas.{ascending_weaker, ascending-filter}
-use Rattle.ci_machine.specs.Kept.{Kept}
-use Rattle.ci_machine.specs.State.{with_record, without_record, need_cmp}
-use Rattle.ci_machine.specs.Ranges.{is_within, needs_within}
-use Rattle.ci_machine.specs.declared.records.Need.{Need}
-use Rattle.ci_machine.specs.declared.change.Record.TheVariants as row
-use Rattle.ci_machine.specs.declared.change.Key.TheVariants as key
-use Rattle.ci_store.specs.Stands.{image}
-use Rattle.ci_store.specs.Statements.{HasPut}
 use Rattle.ci_store.proofs.Queries.{no_limit}
 use Rattle.ci_store.proofs.Writes.{IsWholeStep, whole_if_alone}
 use Rattle.ci_store.proofs.Puts.{MeansPut, MeansRemove, GivesRecord}
 use Rattle.ci_store.proofs.Absent.{absent_unique}
 use Rattle.ci_store.proofs.Scalars.{cast_int, equal_int, compares}
 use Rattle.ci_store.proofs.Selects.{MeansSelect}
-use Rattle.ci_store_rows.specs.declared.texts.TheConstants.{UPDATE_NEED, INSERT_NEED, DELETE_NEED, DELETE_NEEDS, SELECT_NEEDS_OF, SELECT_NEEDS_ON, SELECT_NEEDS_WITHIN}
-use Rattle.ci_store_rows.specs.Schema.{the_schema, need, need_index_1}
-use Rattle.ci_store_rows.specs.Rows.{number, need_row}
-use Rattle.ci_store_rows.specs.Stands.{rows_by_tree, rows_of, Stands, IsAt}
-use Rattle.ci_store_rows.specs.Found.{ShowsRecords}
-use Rattle.ci_store_rows.specs.Changes.{in_state, RemovesUnreferred}
+use Rattle.ci_store_rows.specs.Prelude.{UPDATE_NEED, INSERT_NEED, DELETE_NEED, DELETE_NEEDS, SELECT_NEEDS_OF, SELECT_NEEDS_ON, SELECT_NEEDS_WITHIN, the_schema, need, need_index_1}
+use Rattle.ci_store_rows.specs.Prelude.{number, need_row, rows_by_tree, rows_of, Stands, IsAt, ShowsRecords, in_state, RemovesUnreferred}
 use Rattle.ci_store_rows.proofs.OneList.{IsAlike, alike_but, regular_with_needs}
 use Rattle.ci_store_rows.proofs.Lists.{put_rises, by_two as in_two_parts}
 use Rattle.ci_store_rows.proofs.Records.{is, at_least, at_most, put_stands, both_equal, same_number, finds_within}
@@ -88,9 +63,9 @@ alike : (k : Kept) (xs : List Need) → IsAlike (rows_of k) (rows_of (record k {
 alike k xs = alike_but (take 8 (rows_by_tree k)) (drop 9 (rows_by_tree k)) need (map need_row k.state.needs) (map need_row xs)
 
 pub need_puts : {S : Type 0} (ghosts : Ghosts S) (before after : Held S) (n : Need) (k : Kept) → Stands k (state ghosts before).now → HasPut ghosts UPDATE_NEED.now INSERT_NEED.now (need_row n) before after
-    → Stands (in_state (with_record (row.Need n)) k) (state ghosts after).now
+    → Stands (in_state (with_record (Record.Need n)) k) (state ghosts after).now
 need_puts ghosts before after n k stands h =
-    put_stands need_row k.state.needs k (in_state (with_record (row.Need n)) k) need refl (alike k _) (regular_with_needs k _ (put_rises need_cmp (in_two_parts (λ (q : Need). q.job) (λ q. q.pred)) n k.state.needs stands.inside.regular.needs) stands.inside.regular)
+    put_stands need_row k.state.needs k (in_state (with_record (Record.Need n)) k) need refl (alike k _) (regular_with_needs k _ (put_rises need_cmp (in_two_parts (λ (q : Need). q.job) (λ q. q.pred)) n k.state.needs stands.inside.regular.needs) stands.inside.regular)
     8 UPDATE_NEED.now INSERT_NEED.now tests sets terms means need_cmp (key_of n.job n.pred) n (gives n) (same_key n.job n.pred) refl ghosts before after stands h
 
 means_remove : MeansRemove the_schema 8 need DELETE_NEED.now tests
@@ -101,9 +76,9 @@ whole : (asked : List Term) (params : Row) (db : Trees) → IsWholeStep the_sche
 unfolding everything
 whole asked params db = whole_if_alone the_schema need asked params db (λ olds. refl)
 
-pub need_removed : {S : Type 0} (g : Ghosts S) (old new : Held S) (job pred : ℕ) (k : Kept) → Stands k (state g old).now → RemovesUnreferred g [] DELETE_NEED.now (key_of job pred) old new → Stands (in_state (without_record (key.Need job pred)) k) (state g new).now
+pub need_removed : {S : Type 0} (g : Ghosts S) (old new : Held S) (job pred : ℕ) (k : Kept) → Stands k (state g old).now → RemovesUnreferred g [] DELETE_NEED.now (key_of job pred) old new → Stands (in_state (without_record (Key.Need job pred)) k) (state g new).now
 need_removed g old new job pred k =
-    removed_owned g old new need_row 8 need tests (λ q. is_eq (ordering_then (nat_cmp q.job job) (nat_cmp q.pred pred))) k.state.needs (key_of job pred) k (in_state (without_record (key.Need job pred)) k) refl refl (alike k _) (λ o. regular_with_needs k _ (ascending-filter _ _ k.state.needs o.needs) o) (same_key job pred) (λ r. refl)
+    removed_owned g old new need_row 8 need tests (λ q. is_eq (ordering_then (nat_cmp q.job job) (nat_cmp q.pred pred))) k.state.needs (key_of job pred) k (in_state (without_record (Key.Need job pred)) k) refl refl (alike k _) (λ o. regular_with_needs k _ (ascending-filter _ _ k.state.needs o.needs) o) (same_key job pred) (λ r. refl)
     DELETE_NEED.now means_remove (whole tests)
 
 -- all that a job waits for
@@ -111,9 +86,9 @@ means_remove_all : MeansRemove the_schema 8 need DELETE_NEEDS.now (is 1 0 ∷ []
 unfolding understood everything
 means_remove_all = record { there = refl; apart = refl; delete_is = refl; delete_plain = (refl, refl) }
 
-pub needs_removed : {S : Type 0} (g : Ghosts S) (old new : Held S) (job : ℕ) (k : Kept) → Stands k (state g old).now → RemovesUnreferred g [] DELETE_NEEDS.now (number job ∷ []) old new → Stands (in_state (without_record (key.Needs job)) k) (state g new).now
+pub needs_removed : {S : Type 0} (g : Ghosts S) (old new : Held S) (job : ℕ) (k : Kept) → Stands k (state g old).now → RemovesUnreferred g [] DELETE_NEEDS.now (number job ∷ []) old new → Stands (in_state (without_record (Key.Needs job)) k) (state g new).now
 needs_removed g old new job k =
-    removed_owned g old new need_row 8 need (is 1 0 ∷ []) (λ q. is_eq (nat_cmp q.job job)) k.state.needs (number job ∷ []) k (in_state (without_record (key.Needs job)) k) refl refl (alike k _) (λ o. regular_with_needs k _ (ascending-filter _ _ k.state.needs o.needs) o) (λ q. same_number q.job job) (λ r. refl)
+    removed_owned g old new need_row 8 need (is 1 0 ∷ []) (λ q. is_eq (nat_cmp q.job job)) k.state.needs (number job ∷ []) k (in_state (without_record (Key.Needs job)) k) refl refl (alike k _) (λ o. regular_with_needs k _ (ascending-filter _ _ k.state.needs o.needs) o) (λ q. same_number q.job job) (λ r. refl)
     DELETE_NEEDS.now means_remove_all (whole (is 1 0 ∷ []))
 
 -- ---- two records with the same row

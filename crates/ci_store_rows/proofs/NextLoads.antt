@@ -1,23 +1,11 @@
 -- The loads of next numbers.
 use Rattle.std.proofs.Common.{◌≡◌, ◌∙◌, ℕ, pos, List, [], ◌∷◌, filter, refl, ap, subst, IsPermutation}
-use Rattle.sqlite.specs.declared.types.Value.TheVariants.{Int, Text}
+use Rattle.ci_store.specs.Prelude.{Int, Text, value_cmp, Row, column, Shown, understood, everything, Kept, Numbers, Counter, has_key, next_of}
 use Rattle.sqlite_sql.specs.Ops.{binary}
-use Rattle.sqlite_value.specs.Order.{value_cmp}
-use Rattle.sqlite.specs.Order.{Row, column}
-use Rattle.sqlite.specs.State.{State as Seen, Shown}
-use Rattle.sqlite.specs.Listing.{understood}
-use Rattle.sqlite_tied.specs.Compute.{everything}
+use Rattle.sqlite.specs.State.{State as Seen}
 use Rattle.sqlite.proofs.Callers.{IsPlain, one_permutation}
-use Rattle.ci_machine.specs.Kept.{Kept}
-use Rattle.ci_machine.specs.declared.records.Numbers.{Numbers}
-use Rattle.ci_machine.specs.declared.change.Counter.{Counter}
-use Rattle.ci_machine.specs.declared.change.Counter.TheVariants as counter
-use Rattle.ci_store.specs.Stands.{has_key}
 use Rattle.ci_store.proofs.Selects.{MeansSelect, selects}
-use Rattle.ci_store_rows.specs.declared.texts.TheConstants.{SELECT_META}
-use Rattle.ci_store_rows.specs.Schema.{the_schema, meta}
-use Rattle.ci_store_rows.specs.Stands.{Stands, counter_key, meta_row, meta_rows, rows_of}
-use Rattle.ci_machine.specs.Lookups.{next_of}
+use Rattle.ci_store_rows.specs.Prelude.{SELECT_META, the_schema, meta, Stands, counter_key, meta_row, meta_rows, rows_of}
 use Rattle.ci_store_rows.proofs.Records.{is}
 use Rattle.ci_store_rows.proofs.Shows.{columns_of, names_of, held}
 
@@ -30,11 +18,11 @@ plain_meta = means_meta.plain
 
 one_row : (c : Counter) (next : Numbers) → filter (has_key (Text (counter_key c) ∷ [])) (meta_rows next) ≡ meta_row (counter_key c) (next_of c next) ∷ []
 unfolding binary value_cmp lib.Ieee.is_nan lib.Ieee.lt
-one_row counter.Project next = refl
-one_row counter.Runner next = refl
-one_row counter.Pipeline next = refl
-one_row counter.Job next = refl
-one_row counter.Attempt next = refl
+one_row Counter.Project next = refl
+one_row Counter.Runner next = refl
+one_row Counter.Pipeline next = refl
+one_row Counter.Job next = refl
+one_row Counter.Attempt next = refl
 
 pub next_found : (old new : Seen) (k : Kept) → Stands k old.now → (c : Counter) (rows : List Row) → Shown SELECT_META.now (Text (counter_key c) ∷ []) old new rows → rows ≡ meta_row (counter_key c) (next_of c k.state.next) ∷ []
 next_found old new k stands c rows h =

@@ -1,31 +1,12 @@
 -- One list of what is kept changes, and the others stay.
 use Rattle.std.proofs.Common.{rules, ◌≡◌, ◌≢◌, ◌==◌, ℕ, List, [], ◌∷◌, ◌++◌, if◌then◌else◌, Bool, true, false, Some, refl, ap, ne_eqb}
 use Rattle.std.specs.List.{AllByRecursion}
-use Rattle.sqlite.specs.Order.{Row}
-use Rattle.sqlite.specs.Table.{Table}
+use Rattle.ci_store.specs.Prelude.{Row, Table, Kept, row_cmp, holder_cmp, project_cmp, variable_cmp, runner_cmp, pipeline_cmp, job_cmp, job_variable_cmp, need_cmp, attempt_cmp}
+use Rattle.ci_store.specs.Prelude.{trace_cmp, mode_cmp, Numbers, Project, Variable, Runner, Pipeline, Job, JobVariable, Need, Attempt, Trace, BoardRow, Holder, GroupMode}
+use Rattle.ci_store.specs.Prelude.{Unfinished, Database}
 use Rattle.sqlite_rules.proofs.ListLemmas.{all_from}
 use Rattle.serde_json.specs.Read.{read}
-use Rattle.ci_machine.specs.Kept.{Kept, row_cmp}
-use Rattle.ci_machine.specs.Holders.{holder_cmp}
-use Rattle.ci_machine.specs.State.{project_cmp, variable_cmp, runner_cmp, pipeline_cmp, job_cmp, job_variable_cmp, need_cmp, attempt_cmp, trace_cmp, mode_cmp}
-use Rattle.ci_machine.specs.declared.records.Numbers.{Numbers}
-use Rattle.ci_machine.specs.declared.records.Project.{Project}
-use Rattle.ci_machine.specs.declared.records.Variable.{Variable}
-use Rattle.ci_machine.specs.declared.records.Runner.{Runner}
-use Rattle.ci_machine.specs.declared.records.Pipeline.{Pipeline}
-use Rattle.ci_machine.specs.declared.records.Job.{Job}
-use Rattle.ci_machine.specs.declared.records.JobVariable.{JobVariable}
-use Rattle.ci_machine.specs.declared.records.Need.{Need}
-use Rattle.ci_machine.specs.declared.records.Attempt.{Attempt}
-use Rattle.ci_machine.specs.declared.records.Trace.{Trace}
-use Rattle.ci_machine.specs.declared.records.BoardRow.{BoardRow}
-use Rattle.ci_machine.specs.declared.records.Holder.{Holder}
-use Rattle.ci_machine.specs.declared.records.GroupMode.{GroupMode}
-use Rattle.ci_machine.specs.declared.records.Unfinished.{Unfinished}
-use Rattle.ci_store_rows.specs.Schema.{the_schema}
-use Rattle.ci_store_rows.specs.JsonText.{list_text, list_data, spec_text, spec_data}
-use Rattle.sqlite.specs.Effect.{Database}
-use Rattle.ci_store_rows.specs.Stands.{rows_at, Rises, IsRegular, Stands}
+use Rattle.ci_store_rows.specs.Prelude.{the_schema, list_text, list_data, spec_text, spec_data, rows_at, Rises, IsRegular, Stands}
 
 -- ---- the rows of the other tables
 

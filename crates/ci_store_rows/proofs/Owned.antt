@@ -1,33 +1,18 @@
 -- A table of three columns, whose key is the number of an owner and the second column, which may be a name.
-use Rattle.std.proofs.Common.{◌≡◌, ◌∙◌, ◌==◌, ℕ, List, [], ◌∷◌, map, filter, Bool, true, false, ◌&&◌, not, cond, is_eq, Ordering, Less, Some, slice_get, refl, sym, subst}
-use Rattle.std.specs.Ordering.{nat_cmp, ordering_then}
+use Rattle.std.proofs.Common.{◌≡◌, ◌∙◌, ◌==◌, ℕ, List, [], ◌∷◌, map, filter, Bool, true, false, ◌&&◌, not, cond, is_eq, Ordering, Less, Some, slice_get, refl, sym, subst, nat_cmp}
+use Rattle.std.specs.Ordering.{ordering_then}
 use Rattle.std.specs.Cmp.Lexicographic.{slice_cmp}
-use Rattle.sqlite.specs.declared.types.Value.{Value}
-use Rattle.sqlite.specs.declared.types.Value.TheVariants.{Null, Text}
+use Rattle.ci_store.specs.Prelude.{Value, Null, Text, plain, equal, agree, Row, column, Term, lit, col, Table, Trees, output, output_cmp, Ghosts, Held, state, Kept, has_key, image}
+use Rattle.ci_store.specs.Prelude.{places}
 use Rattle.sqlite_value.specs.declared.keys.Collation.TheVariants.{Binary}
-use Rattle.sqlite_value.specs.Keys.{plain}
 use Rattle.sqlite_value.proofs.KeyLemmas.{first_key-plain}
-use Rattle.sqlite_schema.specs.Rules.{equal, agree}
-use Rattle.sqlite.specs.Order.{Row, column}
-use Rattle.sqlite.specs.Term.{Term, lit, col}
-use Rattle.sqlite.specs.Table.{Table}
-use Rattle.sqlite.specs.Tree.{Trees}
-use Rattle.sqlite.specs.Query.{output, output_cmp}
-use Rattle.sqlite.specs.Store.{Ghosts}
-use Rattle.sqlite.specs.Held.{Held, state}
 use Rattle.sqlite_keyed.proofs.ListLemmas.{filter_same}
-use Rattle.ci_machine.specs.Kept.{Kept}
-use Rattle.ci_store.specs.Stands.{has_key, image, places}
 use Rattle.ci_store.proofs.Queries.{query, picks}
 use Rattle.ci_store.proofs.Writes.{IsWholeStep}
 use Rattle.ci_store.proofs.Puts.{MeansRemove}
 use Rattle.ci_store.proofs.Selects.{MeansSelect}
 use Rattle.ci_store.proofs.Scalars.{equal_int, equal_text}
-use Rattle.ci_store_rows.specs.Schema.{the_schema}
-use Rattle.ci_store_rows.specs.Rows.{number}
-use Rattle.ci_store_rows.specs.Stands.{rows_of, Rises, IsRegular, Stands, IsAt}
-use Rattle.ci_store_rows.specs.Found.{ShowsRecords}
-use Rattle.ci_store_rows.specs.Changes.{RemovesUnreferred}
+use Rattle.ci_store_rows.specs.Prelude.{the_schema, number, rows_of, Rises, IsRegular, Stands, IsAt, ShowsRecords, RemovesUnreferred}
 use Rattle.ci_store_rows.proofs.OneList.{IsAlike}
 use Rattle.ci_store_rows.proofs.Records.{is, is_number, both_equal, remove_stands}
 use Rattle.ci_store_rows.proofs.Shows.{columns_of, names_of, by, pair, shows_sorted, found_all, rise_within}

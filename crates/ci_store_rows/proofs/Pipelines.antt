@@ -1,56 +1,28 @@
 -- The statements that write `pipeline`.
 use Rattle.std.proofs.Common.{◌∙◌, ℕ, pos, List, [], ◌∷◌, refl, ap, ◌≡◌, ◌==◌, ◌&&◌, Bool, true, false, Option, filter, reverse, sym, map, take, drop, length, ◌<◌, ◌≤◌, codes, if◌then◌else◌, inl, inr, nat_lt}
-use Rattle.sqlite.specs.declared.types.Value.TheVariants.{Null, Text}
-use Rattle.sqlite.specs.Order.{Row, column}
-use Rattle.sqlite.specs.Term.{Term, lit, col}
-use Rattle.sqlite_tied.specs.Compute.{everything}
-use Rattle.sqlite.specs.Listing.{understood}
-use Rattle.sqlite.specs.Store.{Ghosts}
-use Rattle.sqlite.specs.Held.{Held, state}
+use Rattle.ci_store.specs.Prelude.{Null, Text, Row, column, Term, lit, col, everything, understood, Ghosts, Held, state, Lt, Gt, Coalesce, Kept, with_record, without_record}
+use Rattle.ci_store.specs.Prelude.{pipeline_cmp, Pipeline, Record, Key, image, places, HasPut, pipeline_at, newer_in, same_kind, is_newer_of, RefKind, Branch, Tag, Source, Push}
+use Rattle.ci_store.specs.Prelude.{Web, Schedule, Api, Trigger, equal, plain, joined, Enforced, works, pairs, loses}
 use Rattle.sqlite_keyed.proofs.ListLemmas.{ascending-filter, slice_get-filter}
 use Rattle.std.proofs.lemmas.Map.Text.{is_eq-slice_cmp}
-use Rattle.sqlite_sql.specs.declared.ops.CompareOp.TheVariants.{Lt, Gt}
-use Rattle.sqlite_sql.specs.declared.ops.BinaryOp.TheVariants.{Coalesce}
 use Rattle.sqlite.specs.Ops.{binary}
-use Rattle.ci_machine.specs.Kept.{Kept}
-use Rattle.ci_machine.specs.State.{with_record, without_record, pipeline_cmp}
-use Rattle.ci_machine.specs.declared.records.Pipeline.{Pipeline}
-use Rattle.ci_machine.specs.declared.change.Record.TheVariants as row
-use Rattle.ci_machine.specs.declared.change.Key.TheVariants as key
-use Rattle.ci_store.specs.Stands.{image, places}
-use Rattle.ci_store.specs.Statements.{HasPut}
 use Rattle.ci_store.proofs.Puts.{MeansPut, MeansRemove, GivesRecord}
 use Rattle.ci_store.proofs.Absent.{absent_rowid}
 use Rattle.ci_store.proofs.Scalars.{cast_int, equal_int, equal_text, compares}
-use Rattle.ci_store_rows.specs.declared.texts.TheConstants.{UPDATE_PIPELINE, INSERT_PIPELINE, DELETE_PIPELINE, SELECT_PIPELINE, SELECT_PIPELINES_ABOVE, SELECT_NEWER_PIPELINES, SELECT_PIPELINES_BEFORE, SELECT_SOME_PIPELINES_BEFORE, SELECT_NEWEST_PIPELINES}
-use Rattle.ci_store_rows.specs.declared.columns.TheConstants.{LAST_INTEGER}
-use Rattle.ci_store_rows.specs.Schema.{the_schema, pipeline}
-use Rattle.ci_store_rows.specs.Rows.{number, pipeline_row, kind_number, source_number}
-use Rattle.ci_store_rows.specs.Stands.{rows_by_tree, rows_of, Stands, IsAt}
+use Rattle.ci_store_rows.specs.Prelude.{UPDATE_PIPELINE, INSERT_PIPELINE, DELETE_PIPELINE, SELECT_PIPELINE, SELECT_PIPELINES_ABOVE, SELECT_NEWER_PIPELINES, SELECT_PIPELINES_BEFORE}
+use Rattle.ci_store_rows.specs.Prelude.{SELECT_SOME_PIPELINES_BEFORE, SELECT_NEWEST_PIPELINES, LAST_INTEGER, the_schema, pipeline, number, pipeline_row, kind_number, source_number}
+use Rattle.ci_store_rows.specs.Prelude.{rows_by_tree, rows_of, Stands, IsAt, ShowsRecords, listed, FindsNumber, in_state, RemovesUnreferred}
 use Rattle.ci_store_rows.proofs.OneList.{IsAlike, alike_but, regular_with_pipelines}
 use Rattle.ci_store_rows.proofs.Lists.{put_rises, by_number}
 use Rattle.ci_store_rows.proofs.Records.{is, put_stands, same_number, is_number, finds_number, numbered, above, finds_beyond, below, finds_below, plus_is, finds_plus_number, plus_below, finds_plus_below}
 use Rattle.sqlite.specs.Collation.TheVariants.{Binary}
-use Rattle.sqlite_schema.specs.Rules.{equal}
 use Rattle.sqlite.proofs.Callers.{IsPlain}
 use Rattle.ci_store.proofs.Selects.{MeansSelect, MeansSelectTo}
-use Rattle.ci_store_rows.specs.Found.{ShowsRecords, listed, FindsNumber}
 use Rattle.std.specs.Str.{bytes_eq}
-use Rattle.ci_machine.specs.Lookups.{pipeline_at}
-use Rattle.ci_machine.specs.Indexes.{newer_in}
-use Rattle.ci_machine.specs.Redundant.{same_kind, is_newer_of}
 use Rattle.ci_store_rows.proofs.Shows.{columns_of, names_of, pair, by, by_total, backward, shows_passing, shows_ordered, shows_backward, shows_some, found_one, found_first, found_some, found_none, first_of_one, rising_numbers, falling_numbers, filter-reverse}
 use Rattle.std.specs.List.{list_any, All, Contains}
-use Rattle.sqlite_value.specs.Keys.{plain, joined}
-use Rattle.sqlite_schema.specs.declared.schema.Keys.TheVariants.{Enforced}
-use Rattle.sqlite_rules.specs.Action.{works, pairs, loses}
-use Rattle.ci_store_rows.specs.Changes.{in_state, RemovesUnreferred}
 use Rattle.ci_store_rows.proofs.Removals.{queries, cascades, removed_numbered}
 use Rattle.ci_store_rows.proofs.Jobs.{refers_to_pipeline}
-use Rattle.ci_machine.specs.declared.records.RefKind.{RefKind}
-use Rattle.ci_machine.specs.declared.records.RefKind.TheVariants.{Branch, Tag}
-use Rattle.ci_machine.specs.declared.records.Source.{Source}
-use Rattle.ci_machine.specs.declared.records.Source.TheVariants.{Push, Web, Schedule, Api, Trigger}
 
 abbrev sets : List Term
 sets = col 0 0 ∷ lit Null ∷ col 0 1 ∷ col 0 2 ∷ col 0 3 ∷ col 0 4 ∷ col 0 5 ∷ []
@@ -73,9 +45,9 @@ alike : (k : Kept) (xs : List Pipeline) → IsAlike (rows_of k) (rows_of (record
 alike k xs = alike_but (take 3 (rows_by_tree k)) (drop 4 (rows_by_tree k)) pipeline (map pipeline_row k.state.pipelines) (map pipeline_row xs)
 
 pub pipeline_puts : {S : Type 0} (ghosts : Ghosts S) (before after : Held S) (p : Pipeline) (k : Kept) → Stands k (state ghosts before).now → HasPut ghosts UPDATE_PIPELINE.now INSERT_PIPELINE.now (pipeline_row p) before after
-    → Stands (in_state (with_record (row.Pipeline p)) k) (state ghosts after).now
+    → Stands (in_state (with_record (Record.Pipeline p)) k) (state ghosts after).now
 pipeline_puts ghosts before after p k stands h =
-    put_stands pipeline_row k.state.pipelines k (in_state (with_record (row.Pipeline p)) k) pipeline refl (alike k _) (regular_with_pipelines k _ (put_rises pipeline_cmp (by_number (λ (q : Pipeline). q.id)) p k.state.pipelines stands.inside.regular.pipelines) stands.inside.regular)
+    put_stands pipeline_row k.state.pipelines k (in_state (with_record (Record.Pipeline p)) k) pipeline refl (alike k _) (regular_with_pipelines k _ (put_rises pipeline_cmp (by_number (λ (q : Pipeline). q.id)) p k.state.pipelines stands.inside.regular.pipelines) stands.inside.regular)
     3 UPDATE_PIPELINE.now INSERT_PIPELINE.now (is 0 0 ∷ []) sets sets means pipeline_cmp (number p.id ∷ []) p (gives p) (λ q. same_number q.id p.id) refl ghosts before after stands h
 
 means_remove : MeansRemove the_schema 3 pipeline DELETE_PIPELINE.now (is 0 0 ∷ [])
@@ -87,9 +59,9 @@ works_are : (olds : List Row) → works the_schema Enforced 0 pipeline.tree olds
 unfolding everything joined
 works_are olds = refl
 
-pub pipeline_removed : {S : Type 0} (g : Ghosts S) (old new : Held S) (id : ℕ) (k : Kept) → Stands k (state g old).now → RemovesUnreferred g (queries (refers_to_pipeline ∷ [])) DELETE_PIPELINE.now (number id ∷ []) old new → Stands (in_state (without_record (key.Pipeline id)) k) (state g new).now
+pub pipeline_removed : {S : Type 0} (g : Ghosts S) (old new : Held S) (id : ℕ) (k : Kept) → Stands k (state g old).now → RemovesUnreferred g (queries (refers_to_pipeline ∷ [])) DELETE_PIPELINE.now (number id ∷ []) old new → Stands (in_state (without_record (Key.Pipeline id)) k) (state g new).now
 pipeline_removed g old new id k =
-    removed_numbered g old new pipeline_row (λ q. q.id) k.state.pipelines id k (in_state (without_record (key.Pipeline id)) k) 3 pipeline refl refl refl (alike k _) (λ o. regular_with_pipelines k _ (ascending-filter _ _ k.state.pipelines o.pipelines) o) (λ q. same_number q.id id) (λ r. refl)
+    removed_numbered g old new pipeline_row (λ q. q.id) k.state.pipelines id k (in_state (without_record (Key.Pipeline id)) k) 3 pipeline refl refl refl (alike k _) (λ o. regular_with_pipelines k _ (ascending-filter _ _ k.state.pipelines o.pipelines) o) (λ q. same_number q.id id) (λ r. refl)
     DELETE_PIPELINE.now means_remove (codes "pipeline") (refers_to_pipeline ∷ []) works_are (λ e. absurd cc, tt)
 
 -- ---- two records with the same row

@@ -1,47 +1,23 @@
 -- The statements that write `project`.
 use Rattle.std.proofs.Common.{◌∙◌, ℕ, pos, List, [], ◌∷◌, refl, ap, ◌≡◌, ◌==◌, ◌&&◌, true, Option, sym, map, take, drop, codes, inl, inr, nat_lt}
-use Rattle.sqlite.specs.declared.types.Value.TheVariants.{Null, Text}
-use Rattle.sqlite.specs.Order.{Row, column}
-use Rattle.sqlite.specs.Term.{Term, lit, col}
-use Rattle.sqlite_tied.specs.Compute.{everything}
-use Rattle.sqlite.specs.Listing.{understood}
-use Rattle.sqlite.specs.Store.{Ghosts}
-use Rattle.sqlite.specs.Held.{Held, state}
+use Rattle.ci_store.specs.Prelude.{Null, Text, Row, column, Term, lit, col, everything, understood, Ghosts, Held, state, Gt, Kept, with_record, without_record, project_cmp}
+use Rattle.ci_store.specs.Prelude.{Project, Record, Key, image, places, HasPut, project_at, project_with, equal, plain, Enforced, works, pairs, loses, or_null}
 use Rattle.sqlite_keyed.proofs.ListLemmas.{ascending-filter}
-use Rattle.sqlite_sql.specs.declared.ops.CompareOp.TheVariants.{Gt}
-use Rattle.ci_machine.specs.Kept.{Kept}
-use Rattle.ci_machine.specs.State.{with_record, without_record, project_cmp}
-use Rattle.ci_machine.specs.declared.records.Project.{Project}
-use Rattle.ci_machine.specs.declared.change.Record.TheVariants as row
-use Rattle.ci_machine.specs.declared.change.Key.TheVariants as key
-use Rattle.ci_store.specs.Stands.{image, places}
-use Rattle.ci_store.specs.Statements.{HasPut}
 use Rattle.ci_store.proofs.Puts.{MeansPut, MeansRemove, GivesRecord}
 use Rattle.ci_store.proofs.Absent.{absent_rowid}
 use Rattle.ci_store.proofs.Scalars.{cast_int, cast_text, compares}
-use Rattle.ci_store_rows.specs.declared.texts.TheConstants.{UPDATE_PROJECT, INSERT_PROJECT, DELETE_PROJECT, SELECT_PROJECT, SELECT_PROJECT_WITH, SELECT_PROJECTS_ABOVE}
-use Rattle.ci_store_rows.specs.declared.columns.TheConstants.{LAST_INTEGER}
-use Rattle.ci_store_rows.specs.Schema.{the_schema, project}
-use Rattle.ci_store_rows.specs.Rows.{number, project_row}
-use Rattle.ci_store_rows.specs.Stands.{rows_by_tree, rows_of, Stands, IsAt}
+use Rattle.ci_store_rows.specs.Prelude.{UPDATE_PROJECT, INSERT_PROJECT, DELETE_PROJECT, SELECT_PROJECT, SELECT_PROJECT_WITH, SELECT_PROJECTS_ABOVE, LAST_INTEGER, the_schema}
+use Rattle.ci_store_rows.specs.Prelude.{project, number, project_row, rows_by_tree, rows_of, Stands, IsAt, ShowsRecords, listed, FindsNumber, in_state, RemovesUnreferred}
 use Rattle.ci_store_rows.proofs.OneList.{IsAlike, alike_but, regular_with_projects}
 use Rattle.ci_store_rows.proofs.Lists.{put_rises, by_number}
 use Rattle.ci_store_rows.proofs.Records.{is, put_stands, same_number, finds_number, finds_text, numbered, above, finds_beyond}
 use Rattle.sqlite.specs.Collation.TheVariants.{Binary}
-use Rattle.sqlite_schema.specs.Rules.{equal}
 use Rattle.sqlite.proofs.Callers.{IsPlain}
 use Rattle.ci_store.proofs.Selects.{MeansSelect}
-use Rattle.ci_store_rows.specs.Found.{ShowsRecords, listed, FindsNumber}
 use Rattle.std.specs.Str.{bytes_eq}
-use Rattle.ci_machine.specs.Lookups.{project_at, project_with}
 use Rattle.ci_store_rows.proofs.Shows.{columns_of, names_of, shows_passing, found_one, found_none}
 use Rattle.std.specs.List.{list_any}
-use Rattle.sqlite_value.specs.Keys.{plain}
-use Rattle.sqlite_schema.specs.declared.schema.Keys.TheVariants.{Enforced}
-use Rattle.sqlite_rules.specs.Action.{works, pairs, loses}
-use Rattle.ci_store_rows.specs.Changes.{in_state, RemovesUnreferred}
 use Rattle.ci_store_rows.proofs.Removals.{cascades, removed_numbered}
-use Rattle.sqlite.specs.Values.{or_null}
 use Rattle.ci_store_rows.proofs.Same.{same_words}
 
 abbrev sets : List Term
@@ -65,9 +41,9 @@ alike : (k : Kept) (xs : List Project) → IsAlike (rows_of k) (rows_of (record 
 alike k xs = alike_but (take 1 (rows_by_tree k)) (drop 2 (rows_by_tree k)) project (map project_row k.state.projects) (map project_row xs)
 
 pub project_puts : {S : Type 0} (ghosts : Ghosts S) (before after : Held S) (p : Project) (k : Kept) → Stands k (state ghosts before).now → HasPut ghosts UPDATE_PROJECT.now INSERT_PROJECT.now (project_row p) before after
-    → Stands (in_state (with_record (row.Project p)) k) (state ghosts after).now
+    → Stands (in_state (with_record (Record.Project p)) k) (state ghosts after).now
 project_puts ghosts before after p k stands h =
-    put_stands project_row k.state.projects k (in_state (with_record (row.Project p)) k) project refl (alike k _) (regular_with_projects k _ (put_rises project_cmp (by_number (λ (q : Project). q.id)) p k.state.projects stands.inside.regular.projects) stands.inside.regular)
+    put_stands project_row k.state.projects k (in_state (with_record (Record.Project p)) k) project refl (alike k _) (regular_with_projects k _ (put_rises project_cmp (by_number (λ (q : Project). q.id)) p k.state.projects stands.inside.regular.projects) stands.inside.regular)
     1 UPDATE_PROJECT.now INSERT_PROJECT.now (is 0 0 ∷ []) sets sets means project_cmp (number p.id ∷ []) p (gives p) (λ q. same_number q.id p.id) refl ghosts before after stands h
 
 means_remove : MeansRemove the_schema 1 project DELETE_PROJECT.now (is 0 0 ∷ [])
@@ -79,9 +55,9 @@ works_are : (olds : List Row) → works the_schema Enforced 0 project.tree olds 
 unfolding everything
 works_are olds = refl
 
-pub project_removed : {S : Type 0} (g : Ghosts S) (old new : Held S) (id : ℕ) (k : Kept) → Stands k (state g old).now → RemovesUnreferred g [] DELETE_PROJECT.now (number id ∷ []) old new → Stands (in_state (without_record (key.Project id)) k) (state g new).now
+pub project_removed : {S : Type 0} (g : Ghosts S) (old new : Held S) (id : ℕ) (k : Kept) → Stands k (state g old).now → RemovesUnreferred g [] DELETE_PROJECT.now (number id ∷ []) old new → Stands (in_state (without_record (Key.Project id)) k) (state g new).now
 project_removed g old new id k =
-    removed_numbered g old new project_row (λ q. q.id) k.state.projects id k (in_state (without_record (key.Project id)) k) 1 project refl refl refl (alike k _) (λ o. regular_with_projects k _ (ascending-filter _ _ k.state.projects o.projects) o) (λ q. same_number q.id id) (λ r. refl)
+    removed_numbered g old new project_row (λ q. q.id) k.state.projects id k (in_state (without_record (Key.Project id)) k) 1 project refl refl refl (alike k _) (λ o. regular_with_projects k _ (ascending-filter _ _ k.state.projects o.projects) o) (λ q. same_number q.id id) (λ r. refl)
     DELETE_PROJECT.now means_remove (codes "project") [] works_are tt
 
 -- ---- two records with the same row

@@ -1,17 +1,8 @@
 -- The records that rows are read as.
 use Rattle.std.proofs.Common.{◌≡◌, ℕ, [], ◌∷◌, length, Option, Some, None, Result, Ok, Err, IfOk, ◌≢◌, MatchOption, refl, arith}
-use Rattle.sqlite.specs.declared.types.Value.{Value}
-use Rattle.sqlite.specs.declared.types.Value.TheVariants.{Null}
-use Rattle.sqlite.specs.Values.{or_null}
-use Rattle.sqlite.specs.Order.{Row, column}
+use Rattle.ci_store.specs.Prelude.{Value, Null, or_null, Row, column}
 use Rattle.ci_store.specs.declared.fault.StoreFault.{StoreFault}
-use Rattle.ci_store_rows.specs.Rows.{number}
-
-pub row2 : (row : Row) → length row ≡ 2 → row ≡ column row 0 ∷ column row 1 ∷ []
-row2 [] is = cc
-row2 (a ∷ []) is = cc
-row2 (a ∷ b ∷ []) is = refl
-row2 (a ∷ b ∷ x ∷ more) is = absurd (omega (arith, is))
+use Rattle.ci_store_rows.specs.Prelude.{number}
 
 pub row3 : (row : Row) → length row ≡ 3 → row ≡ column row 0 ∷ column row 1 ∷ column row 2 ∷ []
 row3 [] is = cc
@@ -19,15 +10,6 @@ row3 (a ∷ []) is = cc
 row3 (a ∷ b ∷ []) is = cc
 row3 (a ∷ b ∷ c ∷ []) is = refl
 row3 (a ∷ b ∷ c ∷ x ∷ more) is = absurd (omega (arith, is))
-
-pub row5 : (row : Row) → length row ≡ 5 → row ≡ column row 0 ∷ column row 1 ∷ column row 2 ∷ column row 3 ∷ column row 4 ∷ []
-row5 [] is = cc
-row5 (a ∷ []) is = cc
-row5 (a ∷ b ∷ []) is = cc
-row5 (a ∷ b ∷ c ∷ []) is = cc
-row5 (a ∷ b ∷ c ∷ d ∷ []) is = cc
-row5 (a ∷ b ∷ c ∷ d ∷ e ∷ []) is = refl
-row5 (a ∷ b ∷ c ∷ d ∷ e ∷ x ∷ more) is = absurd (omega (arith, is))
 
 pub row7 : (row : Row) → length row ≡ 7 → row ≡ column row 0 ∷ column row 1 ∷ column row 2 ∷ column row 3 ∷ column row 4 ∷ column row 5 ∷ column row 6 ∷ []
 row7 [] is = cc

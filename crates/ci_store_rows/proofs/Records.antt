@@ -1,40 +1,20 @@
 -- A record that is put, and one that is removed, in a table of its own.
-use Rattle.std.proofs.Common.{◌≡◌, ◌<◌, ◌==◌, ℕ, ℤ, pos, nat_lt, nat_le, cond, arith, ltb-true, ne_eqb, Less, Equal, Greater, List, ◌∷◌, map, filter, Bool, true, false, not, ◌&&◌, Ordering, is_eq, is_lt, refl, sym, ap, subst, ◌∙◌, Some, None, Option, IsPermutation}
-use Rattle.std.specs.Ordering.{nat_cmp, ordering_then}
+use Rattle.std.proofs.Common.{◌≡◌, ◌<◌, ◌==◌, ℕ, ℤ, pos, nat_lt, nat_le, cond, arith, ltb-true, ne_eqb, Less, Equal, Greater, List, ◌∷◌, map, filter, Bool, true, false, not, ◌&&◌}
+use Rattle.std.proofs.Common.{Ordering, is_eq, is_lt, refl, sym, ap, subst, ◌∙◌, Some, None, Option, IsPermutation, nat_cmp}
+use Rattle.std.specs.Ordering.{ordering_then}
 use Rattle.std.proofs.lemmas.Bool.{cond_both}
 use Rattle.std.proofs.lemmas.Map.Text.{is_eq-slice_cmp}
 use Rattle.std.specs.Str.{bytes_eq}
-use Rattle.sqlite.specs.declared.types.Value.TheVariants.{Null, Int, Text}
+use Rattle.ci_store.specs.Prelude.{Null, Int, Text, value_cmp, is_true, from_truth, Compare, Coalesce, Eq, Lt, Le, Gt, Ge, Row, Term, lit, col, op2, Table, with_rowid, cast}
+use Rattle.ci_store.specs.Prelude.{Integer, Chosen, or_null, bound_value, Ghosts, Held, state, Kept, put, has_key, image, places, without, IsOf, Changes, HasPut, is_within, equal}
 use Rattle.sqlite_value.specs.declared.keys.Collation.TheVariants.{Binary}
-use Rattle.sqlite_value.specs.Order.{value_cmp}
 use Rattle.sqlite_value.proofs.OrderLemmas.{value_cmp-Int}
 use Rattle.sqlite.specs.Ops.{binary}
-use Rattle.sqlite_sql.specs.Ops.{is_true, from_truth}
-use Rattle.sqlite_sql.specs.declared.ops.BinaryOp.TheVariants.{Compare, Coalesce}
-use Rattle.sqlite_sql.specs.declared.ops.CompareOp.TheVariants.{Eq, Lt, Le, Gt, Ge}
-use Rattle.sqlite.specs.Order.{Row}
-use Rattle.sqlite.specs.Term.{Term, lit, col, op2}
-use Rattle.sqlite.specs.Table.{Table}
-use Rattle.sqlite.specs.Edit.{with_rowid}
-use Rattle.sqlite.specs.Cast.{cast}
-use Rattle.sqlite.specs.Kind.TheVariants.{Integer}
-use Rattle.sqlite.specs.Rowids.TheVariants.{Chosen}
-use Rattle.sqlite.specs.Values.{or_null, bound_value}
-use Rattle.sqlite.specs.Store.{Ghosts}
-use Rattle.sqlite.specs.Held.{Held, state}
-use Rattle.ci_machine.specs.Kept.{Kept}
-use Rattle.ci_machine.specs.State.{put}
-use Rattle.ci_store.specs.Stands.{has_key, image, places, without, IsOf}
-use Rattle.sqlite_schema.specs.Rules.{equal}
-use Rattle.ci_store.specs.Statements.{Changes, HasPut}
 use Rattle.ci_store.proofs.Queries.{picks}
 use Rattle.ci_store.proofs.Writes.{IsWholeStep}
 use Rattle.ci_store.proofs.Puts.{MeansPut, MeansRemove, GivesRecord, puts, removes}
 use Rattle.ci_store.proofs.Scalars.{cast_int, cast_null, equal_int, equal_text, int_nat, compares, compares_at_least, compares_at_most, compares_above}
-use Rattle.ci_machine.specs.Ranges.{is_within}
-use Rattle.ci_store_rows.specs.Schema.{the_schema}
-use Rattle.ci_store_rows.specs.Rows.{number}
-use Rattle.ci_store_rows.specs.Stands.{rows_of, IsRegular, Stands}
+use Rattle.ci_store_rows.specs.Prelude.{the_schema, number, rows_of, IsRegular, Stands}
 use Rattle.ci_store_rows.proofs.Lists.{put_among, removed_from}
 use Rattle.ci_store_rows.proofs.OneList.{IsAlike}
 
@@ -112,10 +92,6 @@ finds_number m n = same_number m n ∙ is_number m n
 -- numbers from the first to the last pass both tests of a range
 pub finds_within : (first last n : ℕ) → (compares Ge (number n) (number first) && (compares Le (number n) (number last) && true)) ≡ is_within first last n
 finds_within first last n = (λ i. compares_at_least n first i && (compares_at_most n last i && true)) ∙ ap (λ b. nat_le first n && b) (and_true (nat_le n last))
-
--- those above another, of what has a number in common
-pub finds_above : (group other m n : ℕ) → (equal Binary (number m) (number group) && (compares Gt (number n) (number other) && true)) ≡ ((m == group) && nat_lt other n)
-finds_above group other m n = (λ i. (equal_int m group ∙ is_number m group) i && (compares_above n other i && true)) ∙ ap (λ b. (m == group) && b) (and_true (nat_lt other n))
 
 -- those above another
 pub finds_beyond : (other n : ℕ) → (compares Gt (number n) (number other) && true) ≡ nat_lt other n

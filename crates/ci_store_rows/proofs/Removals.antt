@@ -1,41 +1,20 @@
 -- The removal of a row that rows of other tables may refer to.
-use Rattle.std.proofs.Common.{◌≡◌, ◌≢◌, ℕ, pos, List, [], ◌∷◌, ◌++◌, map, filter, not, is_eq, Bool, true, false, ◌&&◌, cond, Some, None, Result, OnOk, IsTrue, slice_get, refl, sym, ap, subst, ◌∙◌, inl, inr}
+use Rattle.std.proofs.Common.{◌≡◌, ◌≢◌, ℕ, pos, List, [], ◌∷◌, ◌++◌, map, filter, not, is_eq, Bool, true, false, ◌&&◌, cond, Some, None, Result, OnOk, IsTrue, slice_get, refl, sym}
+use Rattle.std.proofs.Common.{ap, subst, ◌∙◌, inl, inr, nat_cmp}
 use Rattle.std.specs.List.{AllByRecursion, list_any, cons_option}
-use Rattle.std.specs.Ordering.{nat_cmp}
 use Rattle.sqlite_value.specs.declared.keys.Key.{Key as Order}
-use Rattle.sqlite_value.specs.Keys.{plain}
-use Rattle.sqlite.specs.Order.{Row, column}
-use Rattle.sqlite.specs.Term.{Term}
-use Rattle.sqlite.specs.Table.{Table}
-use Rattle.sqlite.specs.Tree.{Trees}
-use Rattle.sqlite.specs.Effect.{Database}
-use Rattle.sqlite.specs.State.{Shown}
-use Rattle.sqlite.specs.Store.{Ghosts}
-use Rattle.sqlite.specs.Held.{Held, state}
-use Rattle.sqlite.specs.Listing.{understood}
+use Rattle.ci_store.specs.Prelude.{plain, Row, column, Term, Table, Trees, Database, Shown, Ghosts, Held, state, understood, Enforced, Has, Work, works, pairs, loses, IsShaped}
+use Rattle.ci_store.specs.Prelude.{Kept, indexed, without_record, Key, IndexChange, Holds, has_key, image, places, Changes}
 use Rattle.sqlite.proofs.Callers.{IsPlain}
-use Rattle.sqlite_schema.specs.declared.schema.Keys.TheVariants.{Enforced}
-use Rattle.sqlite_rules.specs.Lists.{Has}
-use Rattle.sqlite_rules.specs.Action.{Work, works, pairs, loses}
 use Rattle.sqlite_rules.proofs.ListLemmas.{all_has, has_got}
-use Rattle.sqlite_trees.specs.View.{IsShaped}
 use Rattle.sqlite_trees.specs.declared.store.Shape.TheVariants as shape
-use Rattle.ci_machine.specs.Kept.{Kept, indexed}
-use Rattle.ci_machine.specs.State.{without_record}
-use Rattle.ci_machine.specs.declared.change.Key.{Key}
-use Rattle.ci_machine.specs.declared.change.IndexChange.{IndexChange}
-use Rattle.ci_store.specs.Stands.{Holds, has_key, image, places}
-use Rattle.ci_store.specs.Statements.{Changes}
 use Rattle.ci_store.proofs.Scalars.{on_ok}
 use Rattle.ci_store.proofs.Queries.{picks}
 use Rattle.ci_store.proofs.Writes.{IsWholeStep}
 use Rattle.ci_store.proofs.Puts.{MeansRemove}
 use Rattle.ci_store.proofs.Childless.{IsChildless, LacksChild, cascade, lone, whole_if_childless}
 use Rattle.ci_store.proofs.Selects.{MeansSelect, shows_none, shown_same}
-use Rattle.ci_store_rows.specs.Schema.{the_schema}
-use Rattle.ci_store_rows.specs.Rows.{number}
-use Rattle.ci_store_rows.specs.Stands.{Stands, IsRegular, rows_of}
-use Rattle.ci_store_rows.specs.Changes.{in_state, Makes, ShowsNone, RemovesUnreferred}
+use Rattle.ci_store_rows.specs.Prelude.{the_schema, number, Stands, IsRegular, rows_of, in_state, Makes, ShowsNone, RemovesUnreferred}
 use Rattle.ci_store_rows.proofs.OneList.{IsAlike}
 use Rattle.ci_store_rows.proofs.Records.{is, remove_stands}
 

@@ -1,54 +1,26 @@
 -- The statements that write `runner`.
 use Rattle.std.proofs.Common.{◌≡◌, ◌∙◌, ◌==◌, inl, inr, nat_lt, ℕ, pos, List, [], ◌∷◌, if◌then◌else◌, Some, refl, ap, ◌&&◌, true, Option, sym, map, take, drop, codes}
-use Rattle.sqlite.specs.declared.types.Value.TheVariants.{Null, Text}
-use Rattle.sqlite.specs.Order.{Row, column}
-use Rattle.sqlite.specs.Term.{Term, lit, col}
-use Rattle.sqlite_tied.specs.Compute.{everything}
-use Rattle.sqlite.specs.Listing.{understood}
-use Rattle.sqlite.specs.Store.{Ghosts}
-use Rattle.sqlite.specs.Held.{Held, state}
+use Rattle.ci_store.specs.Prelude.{Null, Text, Row, column, Term, lit, col, everything, understood, Ghosts, Held, state, Kept, with_record, without_record, runner_cmp, Runner}
+use Rattle.ci_store.specs.Prelude.{Record, Key, image, places, HasPut, runner_at, runner_with, Gt, equal, plain, Enforced, works, pairs, loses, or_null}
 use Rattle.sqlite_keyed.proofs.ListLemmas.{ascending-filter, all-filter}
-use Rattle.ci_machine.specs.Kept.{Kept}
-use Rattle.ci_machine.specs.State.{with_record, without_record, runner_cmp}
-use Rattle.ci_machine.specs.declared.records.Runner.{Runner}
-use Rattle.ci_machine.specs.declared.change.Record.TheVariants as row
-use Rattle.ci_machine.specs.declared.change.Key.TheVariants as key
-use Rattle.ci_store.specs.Stands.{image, places}
-use Rattle.ci_store.specs.Statements.{HasPut}
 use Rattle.ci_store.proofs.Puts.{MeansPut, MeansRemove, GivesRecord}
 use Rattle.ci_store.proofs.Absent.{absent_rowid}
 use Rattle.ci_store.proofs.Scalars.{cast_int, compares}
-use Rattle.ci_store_rows.specs.declared.texts.TheConstants.{UPDATE_RUNNER, INSERT_RUNNER, DELETE_RUNNER, SELECT_RUNNER, SELECT_RUNNERS, SELECT_RUNNERS_ABOVE, SELECT_RUNNER_WITH}
-use Rattle.ci_store_rows.specs.declared.columns.TheConstants.{LAST_INTEGER}
-use Rattle.sqlite_sql.specs.declared.ops.CompareOp.TheVariants.{Gt}
-use Rattle.ci_store_rows.specs.Schema.{the_schema, runner}
-use Rattle.ci_store_rows.specs.JsonText.{list_text, list_data}
+use Rattle.ci_store_rows.specs.Prelude.{UPDATE_RUNNER, INSERT_RUNNER, DELETE_RUNNER, SELECT_RUNNER, SELECT_RUNNERS, SELECT_RUNNERS_ABOVE, SELECT_RUNNER_WITH, LAST_INTEGER}
+use Rattle.ci_store_rows.specs.Prelude.{the_schema, runner, list_text, list_data, number, runner_row, rows_by_tree, rows_of, Stands, IsAt, ShowsRecords, listed, FindsNumber}
+use Rattle.ci_store_rows.specs.Prelude.{IsRunnerRow, in_state, RemovesUnreferred, flag, runner_cells, ReadsList}
 use Rattle.serde_json.specs.Read.{read}
-use Rattle.ci_store_rows.specs.Rows.{number, runner_row}
-use Rattle.ci_store_rows.specs.Stands.{rows_by_tree, rows_of, Stands, IsAt}
 use Rattle.ci_store_rows.proofs.OneList.{IsAlike, alike_but, regular_with_runners}
 use Rattle.ci_store_rows.proofs.Lists.{put_rises, by_number, all_put}
 use Rattle.ci_store_rows.proofs.Records.{is, put_stands, same_number, finds_number, finds_text, numbered, above, finds_beyond, cast_option}
 use Rattle.sqlite.specs.Collation.TheVariants.{Binary}
-use Rattle.sqlite_schema.specs.Rules.{equal}
 use Rattle.sqlite.proofs.Callers.{IsPlain}
 use Rattle.ci_store.proofs.Selects.{MeansSelect}
-use Rattle.ci_store_rows.specs.Found.{ShowsRecords, listed, FindsNumber}
 use Rattle.std.specs.Str.{bytes_eq}
 use Rattle.sqlite_rules.proofs.ListLemmas.{all_has}
-use Rattle.ci_machine.specs.Lookups.{runner_at, runner_with}
-use Rattle.ci_store_rows.specs.Load.{IsRunnerRow}
 use Rattle.ci_store_rows.proofs.Shows.{columns_of, names_of, by, shows_passing, shows_sorted, found_one, found_all, found_none, rising_numbers, every}
 use Rattle.std.specs.List.{list_any}
-use Rattle.sqlite_value.specs.Keys.{plain}
-use Rattle.sqlite_schema.specs.declared.schema.Keys.TheVariants.{Enforced}
-use Rattle.sqlite_rules.specs.Action.{works, pairs, loses}
-use Rattle.ci_store_rows.specs.Changes.{in_state, RemovesUnreferred}
 use Rattle.ci_store_rows.proofs.Removals.{cascades, removed_numbered}
-use Rattle.sqlite.specs.Values.{or_null}
-use Rattle.ci_store_rows.specs.Rows.{flag}
-use Rattle.ci_store_rows.specs.Load.{runner_cells}
-use Rattle.ci_store_rows.specs.Reads.{ReadsList}
 use Rattle.ci_store_rows.proofs.Same.{same_option, same_flag}
 
 abbrev sets : List Term
@@ -72,9 +44,9 @@ alike : (k : Kept) (xs : List Runner) → IsAlike (rows_of k) (rows_of (record k
 alike k xs = alike_but (take 2 (rows_by_tree k)) (drop 3 (rows_by_tree k)) runner (map runner_row k.state.runners) (map runner_row xs)
 
 pub runner_puts : {S : Type 0} (ghosts : Ghosts S) (before after : Held S) (r : Runner) (k : Kept) → read (list_text r.tags) ≡ Some (list_data r.tags) → Stands k (state ghosts before).now → HasPut ghosts UPDATE_RUNNER.now INSERT_RUNNER.now (runner_row r) before after
-    → Stands (in_state (with_record (row.Runner r)) k) (state ghosts after).now
+    → Stands (in_state (with_record (Record.Runner r)) k) (state ghosts after).now
 runner_puts ghosts before after r k read_back stands h =
-    put_stands runner_row k.state.runners k (in_state (with_record (row.Runner r)) k) runner refl (alike k _) (regular_with_runners k _ (put_rises runner_cmp (by_number (λ (q : Runner). q.id)) r k.state.runners stands.inside.regular.runners) (all_put runner_cmp _ r k.state.runners read_back stands.inside.regular.tags) stands.inside.regular)
+    put_stands runner_row k.state.runners k (in_state (with_record (Record.Runner r)) k) runner refl (alike k _) (regular_with_runners k _ (put_rises runner_cmp (by_number (λ (q : Runner). q.id)) r k.state.runners stands.inside.regular.runners) (all_put runner_cmp _ r k.state.runners read_back stands.inside.regular.tags) stands.inside.regular)
     2 UPDATE_RUNNER.now INSERT_RUNNER.now (is 0 0 ∷ []) sets sets means runner_cmp (number r.id ∷ []) r (gives r) (λ q. same_number q.id r.id) refl ghosts before after stands h
 
 means_remove : MeansRemove the_schema 2 runner DELETE_RUNNER.now (is 0 0 ∷ [])
@@ -86,9 +58,9 @@ works_are : (olds : List Row) → works the_schema Enforced 0 runner.tree olds [
 unfolding everything
 works_are olds = refl
 
-pub runner_removed : {S : Type 0} (g : Ghosts S) (old new : Held S) (id : ℕ) (k : Kept) → Stands k (state g old).now → RemovesUnreferred g [] DELETE_RUNNER.now (number id ∷ []) old new → Stands (in_state (without_record (key.Runner id)) k) (state g new).now
+pub runner_removed : {S : Type 0} (g : Ghosts S) (old new : Held S) (id : ℕ) (k : Kept) → Stands k (state g old).now → RemovesUnreferred g [] DELETE_RUNNER.now (number id ∷ []) old new → Stands (in_state (without_record (Key.Runner id)) k) (state g new).now
 runner_removed g old new id k =
-    removed_numbered g old new runner_row (λ q. q.id) k.state.runners id k (in_state (without_record (key.Runner id)) k) 2 runner refl refl refl (alike k _) (λ o. regular_with_runners k _ (ascending-filter _ _ k.state.runners o.runners) (all-filter _ _ k.state.runners o.tags) o) (λ q. same_number q.id id) (λ r. refl)
+    removed_numbered g old new runner_row (λ q. q.id) k.state.runners id k (in_state (without_record (Key.Runner id)) k) 2 runner refl refl refl (alike k _) (λ o. regular_with_runners k _ (ascending-filter _ _ k.state.runners o.runners) (all-filter _ _ k.state.runners o.tags) o) (λ q. same_number q.id id) (λ r. refl)
     DELETE_RUNNER.now means_remove (codes "runner") [] works_are tt
 
 -- ---- two records with the same row

@@ -1,9 +1,8 @@
 -- Cells that are the same, and lists that are read one by one.
 use Rattle.std.proofs.Common.{◌≡◌, ℕ, List, [], ◌∷◌, ◌++◌, Bool, true, false, Option, Some, None, refl}
 use Rattle.std.specs.List.{AllZip}
-use Rattle.sqlite.specs.declared.types.Value.TheVariants.{Text}
-use Rattle.sqlite.specs.Values.{or_null}
-use Rattle.ci_store_rows.specs.Rows.{number, flag}
+use Rattle.ci_store.specs.Prelude.{Text, or_null}
+use Rattle.ci_store_rows.specs.Prelude.{number, flag}
 
 pub same_words : (a b : Option (List ℕ)) → or_null Text a ≡ or_null Text b → a ≡ b
 same_words None None h = refl

@@ -1,8 +1,10 @@
 -- What a query over one table shows of a state, and the records that its rows are read as.
-use Rattle.std.proofs.Common.{◌≡◌, ◌∙◌, ℕ, pos, List, [], ◌∷◌, ◌++◌, map, filter, reverse, find, take, drop, slice_get, Bool, true, false, is_eq, Ordering, Less, Equal, Greater, Option, Some, None, option_map, refl, sym, ap, subst, cond, inl, inr, IsPermutation, ◌<◌, ◌≤◌, ◌==◌, suc, length, min, nat_lt, ltb-false, ne_eqb, arith}
+use Rattle.std.proofs.Common.{◌≡◌, ◌∙◌, ℕ, pos, List, [], ◌∷◌, ◌++◌, map, filter, reverse, find, take, drop, slice_get, Bool, true, false, is_eq, Ordering, Less, Equal, Greater}
+use Rattle.std.proofs.Common.{Option, Some, None, option_map, refl, sym, ap, subst, cond, inl, inr, IsPermutation, ◌<◌, ◌≤◌, ◌==◌, suc, length, min, nat_lt, ltb-false, ne_eqb}
+use Rattle.std.proofs.Common.{arith, nat_cmp}
 use Rattle.std.proofs.lemmas.Bool.{cond_both}
 use Rattle.std.specs.List.{AllByRecursion, AllZip, All, Contains, last_or}
-use Rattle.std.specs.Ordering.{nat_cmp, ordering_then}
+use Rattle.std.specs.Ordering.{ordering_then}
 use Rattle.std.specs.Cmp.{IsTotalOrder}
 use Rattle.std.specs.Cmp.Lexicographic.{slice_cmp}
 use Rattle.std.proofs.lemmas.List.{take-append-drop, take-map, take_all, length-take, append-nil, append_assoc}
@@ -13,33 +15,20 @@ use Rattle.std.proofs.lemmas.List.Sorted.{IsPermutation-sym, IsPermutation-trans
 use Rattle.sqlite_trees.proofs.ListLemmas.{IsPermutation-filter}
 use Rattle.sqlite.specs.Collation.TheVariants.{Binary}
 use Rattle.sqlite_value.specs.declared.keys.Key.{Key}
-use Rattle.sqlite_value.specs.Keys.{ascending, by_key}
+use Rattle.ci_store.specs.Prelude.{ascending, by_key, Text, Row, column, Term, col, eval_all, Output, output, output_cmp, key_cmp, limited, Table, Trees, Database, Shown}
+use Rattle.ci_store.specs.Prelude.{IsAscending, Has, Kept, Holds, image, places}
 use Rattle.sqlite_value.proofs.KeyLemmas.{by_key_total}
 use Rattle.sqlite_value.proofs.OrderLemmas.{value_cmp-Int, value_cmp-Text, then-Equal}
-use Rattle.sqlite.specs.declared.types.Value.TheVariants.{Text}
-use Rattle.sqlite.specs.Order.{Row, column}
-use Rattle.sqlite.specs.Term.{Term, col, eval_all}
-use Rattle.sqlite.specs.Query.{Output, output, output_cmp, key_cmp, limited}
-use Rattle.sqlite.specs.Table.{Table}
-use Rattle.sqlite.specs.Tree.{Trees}
-use Rattle.sqlite.specs.Effect.{Database}
-use Rattle.sqlite.specs.State.{State as Seen, Shown}
-use Rattle.sqlite_trees.specs.Tree.{IsAscending}
+use Rattle.sqlite.specs.State.{State as Seen}
 use Rattle.sqlite.proofs.Callers.{one_permutation, reads_as}
 use Rattle.sqlite_keyed.proofs.ListLemmas.{filter-map, filter_same, slice_get-filter, ascending-map, ascending_weaker, ascending-filter}
-use Rattle.sqlite_rules.specs.Lists.{Has}
 use Rattle.sqlite_rules.proofs.ListLemmas.{all_has, all_from, has_got, has_filtered, has_left, has_contained, contains_had}
-use Rattle.ci_machine.specs.Kept.{Kept}
-use Rattle.ci_store.specs.Stands.{Holds, image, places}
 use Rattle.ci_store.proofs.Writes.{perm_nil, map_nil, map_one}
 use Rattle.ci_store.proofs.Queries.{query, picks, no_limit, count_of, Answered, shows, answered, answered_to, map_map}
 use Rattle.ci_store.proofs.Selects.{MeansSelect, MeansSelectTo, selects}
 use Rattle.ci_store.proofs.Ordered.{no_key_total, selects_sorted}
 use Rattle.ci_store.proofs.Scalars.{int_nat}
-use Rattle.ci_store_rows.specs.Schema.{the_schema}
-use Rattle.ci_store_rows.specs.Rows.{number}
-use Rattle.ci_store_rows.specs.Stands.{Stands, rows_of}
-use Rattle.ci_store_rows.specs.Found.{listed}
+use Rattle.ci_store_rows.specs.Prelude.{the_schema, number, Stands, rows_of, listed}
 
 -- the columns of a row, in their order, and their names
 abbrev pub columns_of : Table → List Term

@@ -1,46 +1,26 @@
 -- The statements that write `variable`.
-use Rattle.std.proofs.Common.{◌≡◌, ◌∙◌, ◌==◌, ℕ, pos, List, [], ◌∷◌, true, is_eq, refl, sym, Option, ◌&&◌, map, take, drop}
-use Rattle.std.specs.Ordering.{nat_cmp, ordering_then}
+use Rattle.std.proofs.Common.{◌≡◌, ◌∙◌, ◌==◌, ℕ, pos, List, [], ◌∷◌, true, is_eq, refl, sym, Option, ◌&&◌, map, take, drop, nat_cmp}
+use Rattle.std.specs.Ordering.{ordering_then}
 use Rattle.std.specs.Str.{bytes_eq}
 use Rattle.std.specs.Cmp.Lexicographic.{slice_cmp}
 use Rattle.sqlite_value.specs.declared.keys.Collation.TheVariants.{Binary}
-use Rattle.sqlite_sql.specs.Ops.{is_null}
-use Rattle.sqlite_schema.specs.Rules.{equal}
-use Rattle.sqlite.specs.Cast.{cast}
-use Rattle.sqlite.specs.Kind.TheVariants.{Integer}
-use Rattle.sqlite.specs.declared.types.Value.TheVariants.{Null, Text}
-use Rattle.sqlite.specs.Order.{Row, column}
-use Rattle.sqlite.specs.Tree.{Trees}
-use Rattle.sqlite_tied.specs.Compute.{everything}
-use Rattle.sqlite.specs.Listing.{understood}
-use Rattle.sqlite.specs.Store.{Ghosts}
-use Rattle.sqlite.specs.Held.{Held, state}
+use Rattle.ci_store.specs.Prelude.{is_null, equal, cast, Integer, Null, Text, Row, column, Trees, everything, understood, Ghosts, Held, state, Kept, with_record, without_record}
+use Rattle.ci_store.specs.Prelude.{variable_cmp, Variable, Record, Key, HasPut, project_variables, variable_at}
 use Rattle.sqlite_keyed.proofs.ListLemmas.{ascending-filter}
 use Rattle.sqlite_rules.proofs.ListLemmas.{has_got}
-use Rattle.ci_machine.specs.Kept.{Kept}
-use Rattle.ci_machine.specs.State.{with_record, without_record, variable_cmp}
-use Rattle.ci_machine.specs.declared.records.Variable.{Variable}
-use Rattle.ci_machine.specs.declared.change.Record.TheVariants as row
-use Rattle.ci_machine.specs.declared.change.Key.TheVariants as key
-use Rattle.ci_store.specs.Statements.{HasPut}
 use Rattle.ci_store.proofs.Writes.{IsWholeStep, whole_if_alone}
 use Rattle.ci_store.proofs.Puts.{MeansPut, MeansRemove, GivesRecord}
 use Rattle.ci_store.proofs.Absent.{absent_unique}
 use Rattle.ci_store.proofs.Scalars.{cast_int}
-use Rattle.ci_store_rows.specs.declared.texts.TheConstants.{UPDATE_VARIABLE, INSERT_VARIABLE, DELETE_VARIABLE, SELECT_VARIABLE, SELECT_VARIABLES}
-use Rattle.ci_store_rows.specs.Schema.{the_schema, variable, variable_index_1}
-use Rattle.ci_store_rows.specs.Rows.{number, variable_row}
-use Rattle.ci_store_rows.specs.Stands.{rows_by_tree, rows_of, Stands, IsAt}
+use Rattle.ci_store_rows.specs.Prelude.{UPDATE_VARIABLE, INSERT_VARIABLE, DELETE_VARIABLE, SELECT_VARIABLE, SELECT_VARIABLES, the_schema, variable, variable_index_1, number}
+use Rattle.ci_store_rows.specs.Prelude.{variable_row, rows_by_tree, rows_of, Stands, IsAt, ShowsRecords, listed, in_state, RemovesUnreferred}
 use Rattle.ci_store_rows.proofs.OneList.{IsAlike, alike_but, regular_with_variables}
 use Rattle.ci_store_rows.proofs.Lists.{put_rises, by_both}
 use Rattle.ci_store_rows.proofs.Records.{is, put_stands, same_number, finds_named}
 use Rattle.sqlite.proofs.Callers.{IsPlain}
 use Rattle.ci_store.proofs.Selects.{MeansSelect}
-use Rattle.ci_store_rows.specs.Found.{ShowsRecords, listed}
 use Rattle.ci_store_rows.proofs.Owned.{tests, sets, terms, named, same_named, unnumbered, agrees, removed_owned, owned_found}
 use Rattle.ci_store_rows.proofs.Shows.{columns_of, names_of, by, rising_text, shows_passing, found_one}
-use Rattle.ci_machine.specs.Lookups.{project_variables, variable_at}
-use Rattle.ci_store_rows.specs.Changes.{in_state, RemovesUnreferred}
 
 means : MeansPut the_schema 10 variable UPDATE_VARIABLE.now INSERT_VARIABLE.now tests sets terms
 unfolding understood everything
@@ -61,9 +41,9 @@ alike : (k : Kept) (xs : List Variable) → IsAlike (rows_of k) (rows_of (record
 alike k xs = alike_but (take 10 (rows_by_tree k)) (drop 11 (rows_by_tree k)) variable (map variable_row k.state.variables) (map variable_row xs)
 
 pub variable_puts : {S : Type 0} (ghosts : Ghosts S) (before after : Held S) (v : Variable) (k : Kept) → Stands k (state ghosts before).now → HasPut ghosts UPDATE_VARIABLE.now INSERT_VARIABLE.now (variable_row v) before after
-    → Stands (in_state (with_record (row.Variable v)) k) (state ghosts after).now
+    → Stands (in_state (with_record (Record.Variable v)) k) (state ghosts after).now
 variable_puts ghosts before after v k stands h =
-    put_stands variable_row k.state.variables k (in_state (with_record (row.Variable v)) k) variable refl (alike k _) (regular_with_variables k _ (put_rises variable_cmp (by_both (λ (q : Variable). q.project) (λ q. q.key)) v k.state.variables stands.inside.regular.variables) stands.inside.regular)
+    put_stands variable_row k.state.variables k (in_state (with_record (Record.Variable v)) k) variable refl (alike k _) (regular_with_variables k _ (put_rises variable_cmp (by_both (λ (q : Variable). q.project) (λ q. q.key)) v k.state.variables stands.inside.regular.variables) stands.inside.regular)
     10 UPDATE_VARIABLE.now INSERT_VARIABLE.now tests sets terms means variable_cmp (named v.project v.key) v (gives v) (λ q. same_named v.project v.key q.project q.key) refl ghosts before after stands h
 
 means_remove : MeansRemove the_schema 10 variable DELETE_VARIABLE.now tests
@@ -74,9 +54,9 @@ whole : (params : Row) (db : Trees) → IsWholeStep the_schema variable tests pa
 unfolding everything
 whole params db = whole_if_alone the_schema variable tests params db (λ olds. refl)
 
-pub variable_removed : {S : Type 0} (g : Ghosts S) (old new : Held S) (owner : ℕ) (name : List ℕ) (k : Kept) → Stands k (state g old).now → RemovesUnreferred g [] DELETE_VARIABLE.now (named owner name) old new → Stands (in_state (without_record (key.Variable owner name)) k) (state g new).now
+pub variable_removed : {S : Type 0} (g : Ghosts S) (old new : Held S) (owner : ℕ) (name : List ℕ) (k : Kept) → Stands k (state g old).now → RemovesUnreferred g [] DELETE_VARIABLE.now (named owner name) old new → Stands (in_state (without_record (Key.Variable owner name)) k) (state g new).now
 variable_removed g old new owner name k =
-    removed_owned g old new variable_row 10 variable tests (λ q. is_eq (ordering_then (nat_cmp q.project owner) (slice_cmp nat_cmp q.key name))) k.state.variables (named owner name) k (in_state (without_record (key.Variable owner name)) k) refl refl (alike k _) (λ o. regular_with_variables k _ (ascending-filter _ _ k.state.variables o.variables) o) (λ q. same_named owner name q.project q.key) (λ r. refl)
+    removed_owned g old new variable_row 10 variable tests (λ q. is_eq (ordering_then (nat_cmp q.project owner) (slice_cmp nat_cmp q.key name))) k.state.variables (named owner name) k (in_state (without_record (Key.Variable owner name)) k) refl refl (alike k _) (λ o. regular_with_variables k _ (ascending-filter _ _ k.state.variables o.variables) o) (λ q. same_named owner name q.project q.key) (λ r. refl)
     DELETE_VARIABLE.now means_remove whole
 
 -- ---- two records with the same row

@@ -1,7 +1,7 @@
 -- A trace as rows: blocks of 16,384 bytes, from 0 on, of which the last has what is left. An empty trace has none.
 use Rattle.std.specs.Prelude.{◌≡◌, ◌<◌, ◌≤◌, ℕ, ◌+◌, ◌-◌, ◌*◌, ◌/◌, ◌%◌, List, length, map, take, drop, ◌++◌, Option, None}
 use Rattle.std.specs.List.{flat_map, range_with_len, last_or}
-use Rattle.ci_machine.specs.declared.records.Trace.{Trace}
+use Rattle.ci_store.specs.Prelude.{Trace}
 use Rattle.ci_store_rows.specs.declared.block.Block.{Block}
 use Rattle.ci_store_rows.specs.declared.block.TheConstants.{BLOCK_BYTES}
 

@@ -1,16 +1,6 @@
 -- What a statement inside a transaction makes of what the tables keep.
 use Rattle.std.specs.Prelude.{◌≡◌, ℕ, List, [], ◌∷◌, Result, IsTrue, OnOk}
-use Rattle.sqlite.specs.Order.{Row}
-use Rattle.sqlite.specs.State.{HasCleanDisk, Shown}
-use Rattle.sqlite.specs.Store.{Ghosts}
-use Rattle.sqlite.specs.Held.{Held, state}
-use Rattle.ci_machine.specs.Kept.{Kept}
-use Rattle.ci_machine.specs.State.{State, changed}
-use Rattle.ci_machine.specs.Lookups.{trace_of}
-use Rattle.ci_machine.specs.declared.change.RowChange.TheVariants.{Append}
-use Rattle.ci_machine.specs.declared.records.BoardRow.{BoardRow}
-use Rattle.ci_machine.specs.declared.records.Holder.{Holder}
-use Rattle.ci_store.specs.Statements.{Changes}
+use Rattle.ci_store.specs.Prelude.{Row, HasCleanDisk, Shown, Ghosts, Held, state, Kept, State, changed, trace_of, Append, BoardRow, Holder, Changes}
 use Rattle.ci_store_rows.specs.declared.block.Block.{Block}
 use Rattle.ci_store_rows.specs.Blocks.{StaysWithin}
 use Rattle.ci_store_rows.specs.Stands.{Stands}

@@ -1,10 +1,7 @@
 -- What a query shows, as records.
 use Rattle.std.specs.Prelude.{◌≡◌, ◌<◌, ◌⊎◌, List, [], ◌∷◌, ℕ, Option, None, Some}
 use Rattle.std.specs.List.{AllZip}
-use Rattle.sqlite.specs.Order.{Row}
-use Rattle.sqlite.specs.State.{Shown}
-use Rattle.sqlite.specs.Store.{Ghosts}
-use Rattle.sqlite.specs.Held.{Held, state}
+use Rattle.ci_store.specs.Prelude.{Row, Shown, Ghosts, Held, state}
 use Rattle.ci_store_rows.specs.declared.columns.TheConstants.{LAST_INTEGER}
 use Rattle.ci_store_rows.specs.Rows.{number}
 

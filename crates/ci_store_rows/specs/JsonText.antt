@@ -3,16 +3,9 @@ use Rattle.std.specs.Prelude.{ℕ, List, [], ◌∷◌, map, filter, codes, true
 use Rattle.serde_json.specs.Data.{Data, null, boolean, string, number, array, object, unsigned, Items, no_members, member}
 use Rattle.serde_json.specs.View.{items_of}
 use Rattle.serde_json.specs.Written.{compact_text}
-use Rattle.ci_values.specs.declared.attempts.Cause.{Cause}
-use Rattle.ci_values.specs.declared.attempts.Cause.TheVariants.{UnknownFailure, ScriptFailure, ApiFailure, StuckOrTimeoutFailure, RunnerSystemFailure, JobExecutionTimeout}
-use Rattle.ci_values.specs.declared.when.When.{When}
-use Rattle.ci_values.specs.declared.when.When.TheVariants.{OnSuccess, OnFailure, Always, Manual}
-use Rattle.ci_values.specs.declared.when.AllowFailure.{AllowFailure}
-use Rattle.ci_values.specs.declared.when.AllowFailure.TheVariants.{No, Yes, ExitCodes}
-use Rattle.ci_values.specs.declared.when.Causes.{Causes}
-use Rattle.ci_values.specs.declared.when.Retry.{Retry}
-use Rattle.ci_values.specs.Attempts.{has_cause}
-use Rattle.ci_machine.specs.declared.records.JobOptions.{JobOptions}
+use Rattle.ci_machine.specs.Prelude.{Cause, UnknownFailure, ScriptFailure, ApiFailure, StuckOrTimeoutFailure, RunnerSystemFailure, JobExecutionTimeout, When, OnSuccess, OnFailure}
+use Rattle.ci_machine.specs.Prelude.{Always, Manual, AllowFailure, No, Yes, ExitCodes, Causes, Retry, has_cause}
+use Rattle.ci_store.specs.Prelude.{JobOptions}
 
 abbrev pub strings : List (List ℕ) → Items
 strings texts = items_of (map string texts)

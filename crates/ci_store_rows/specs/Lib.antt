@@ -8,3 +8,4 @@ pub mod Found
 pub mod Changes
 pub mod JsonText
 pub mod Reads
+pub mod Prelude

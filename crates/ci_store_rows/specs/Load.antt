@@ -1,14 +1,7 @@
 -- What the rows that are read hold.
 use Rattle.std.specs.Prelude.{◌≡◌, ℕ, List, [], ◌∷◌, Option}
-use Rattle.sqlite.specs.declared.types.Value.{Value}
-use Rattle.sqlite.specs.declared.types.Value.TheVariants.{Text, Blob}
-use Rattle.sqlite.specs.Values.{or_null}
-use Rattle.sqlite.specs.Order.{Row}
-use Rattle.ci_machine.specs.declared.records.Runner.{Runner}
-use Rattle.ci_machine.specs.declared.records.Job.{Job}
-use Rattle.ci_machine.specs.declared.records.JobOptions.{JobOptions}
-use Rattle.ci_machine.specs.declared.records.Demand.{Demand}
-use Rattle.ci_values.specs.declared.attempts.AttemptState.{AttemptState}
+use Rattle.ci_store.specs.Prelude.{Value, Text, Blob, or_null, Row, Runner, Job, JobOptions, Demand}
+use Rattle.ci_machine.specs.Prelude.{AttemptState}
 use Rattle.ci_store_rows.specs.Reads.{ReadsList, ReadsSpec, ReadsDemand}
 use Rattle.ci_store_rows.specs.Rows.{number, flag, state_number, cause_in, exit_in}
 

@@ -3,8 +3,7 @@ use Rattle.std.specs.Prelude.{◌≡◌, ℕ, Bool, false, List, Some}
 use Rattle.std.specs.Str.{bytes_eq}
 use Rattle.serde_json.specs.Data.{Data, string}
 use Rattle.serde_json.specs.Read.{read}
-use Rattle.ci_machine.specs.declared.records.JobOptions.{JobOptions}
-use Rattle.ci_machine.specs.declared.records.Demand.{Demand}
+use Rattle.ci_store.specs.Prelude.{JobOptions, Demand}
 use Rattle.ci_store_rows.specs.JsonText.{list_data, spec_data}
 
 -- the text can be read as the list of these texts alone

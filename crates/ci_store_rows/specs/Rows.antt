@@ -1,31 +1,9 @@
 -- The row of each record: its values in the order of the table's columns.
 use Rattle.std.specs.Prelude.{ℕ, pos, Bool, if◌then◌else◌, [], ◌∷◌, Option, Some, None}
-use Rattle.sqlite.specs.declared.types.Value.{Value}
-use Rattle.sqlite.specs.declared.types.Value.TheVariants.{Int, Text, Blob}
-use Rattle.sqlite.specs.Values.{or_null}
-use Rattle.sqlite.specs.Order.{Row}
-use Rattle.ci_machine.specs.declared.records.Project.{Project}
-use Rattle.ci_machine.specs.declared.records.Variable.{Variable}
-use Rattle.ci_machine.specs.declared.records.Runner.{Runner}
-use Rattle.ci_machine.specs.declared.records.Pipeline.{Pipeline}
-use Rattle.ci_machine.specs.declared.records.Job.{Job}
-use Rattle.ci_machine.specs.declared.records.JobVariable.{JobVariable}
-use Rattle.ci_machine.specs.declared.records.Need.{Need}
-use Rattle.ci_machine.specs.declared.records.Attempt.{Attempt}
-use Rattle.ci_machine.specs.declared.records.BoardRow.{BoardRow}
-use Rattle.ci_machine.specs.declared.records.Holder.{Holder}
-use Rattle.ci_machine.specs.declared.records.GroupMode.{GroupMode}
-use Rattle.ci_machine.specs.declared.records.GroupOrder.{GroupOrder}
-use Rattle.ci_machine.specs.declared.records.GroupOrder.TheVariants.{OldestFirst, NewestReadyFirst}
-use Rattle.ci_board.specs.Effects.{status_number}
-use Rattle.ci_machine.specs.declared.records.RefKind.{RefKind}
-use Rattle.ci_machine.specs.declared.records.RefKind.TheVariants.{Branch, Tag}
-use Rattle.ci_machine.specs.declared.records.Source.{Source}
-use Rattle.ci_machine.specs.declared.records.Source.TheVariants.{Push, Web, Schedule, Api, Trigger}
-use Rattle.ci_values.specs.declared.attempts.Cause.{Cause}
-use Rattle.ci_values.specs.declared.attempts.Cause.TheVariants.{UnknownFailure, ScriptFailure, ApiFailure, StuckOrTimeoutFailure, RunnerSystemFailure, JobExecutionTimeout}
-use Rattle.ci_values.specs.declared.attempts.AttemptState.{AttemptState}
-use Rattle.ci_values.specs.declared.attempts.AttemptState.TheVariants.{Live, Succeeded, Failed, Cancelled}
+use Rattle.ci_store.specs.Prelude.{Value, Int, Text, Blob, or_null, Row, Project, Variable, Runner, Pipeline, Job, JobVariable, Need, Attempt, BoardRow, Holder, GroupMode}
+use Rattle.ci_store.specs.Prelude.{GroupOrder, OldestFirst, NewestReadyFirst, status_number, RefKind, Branch, Tag, Source, Push, Web, Schedule, Api, Trigger}
+use Rattle.ci_machine.specs.Prelude.{Cause, UnknownFailure, ScriptFailure, ApiFailure, StuckOrTimeoutFailure, RunnerSystemFailure, JobExecutionTimeout, AttemptState, Live}
+use Rattle.ci_machine.specs.Prelude.{Succeeded, Failed, Cancelled}
 use Rattle.ci_store_rows.specs.JsonText.{list_text, spec_text}
 use Rattle.ci_store_rows.specs.declared.block.Block.{Block}
 

@@ -1,18 +1,8 @@
 -- The tables and the indexes, as their texts define them.
 use Rattle.std.specs.Prelude.{ℕ, Bool, true, false, List, [], ◌∷◌, map, Some, None, codes}
 use Rattle.sqlite.specs.Collation.TheVariants.{Binary}
-use Rattle.sqlite.specs.declared.types.Value.TheVariants.{Null}
-use Rattle.sqlite.specs.Table.{Table}
-use Rattle.sqlite.specs.Schema.{Schema}
-use Rattle.sqlite_schema.specs.declared.schema.Index.{Index}
-use Rattle.sqlite_schema.specs.declared.schema.Column.{Column}
-use Rattle.sqlite_schema.specs.declared.schema.Reference.{Reference}
-use Rattle.sqlite_schema.specs.declared.schema.Action.{Action}
-use Rattle.sqlite_schema.specs.declared.schema.Action.TheVariants.{NoAction, Cascade}
-use Rattle.sqlite_value.specs.Keys.{plain}
-use Rattle.sqlite_catalog.specs.Listing.{automatic}
-use Rattle.sqlite.specs.Kind.{Kind}
-use Rattle.sqlite.specs.Kind.TheVariants.{Integer, Text, Blob}
+use Rattle.ci_store.specs.Prelude.{Null, Table, Schema, Index, Column, Reference, Action, NoAction, Cascade, plain, automatic, Kind, Integer}
+use Rattle.sqlite.specs.Kind.TheVariants.{Text, Blob}
 
 -- a column of a strict table: its name, its type, and whether it is NOT NULL
 abbrev column : List ℕ → Kind → Bool → Column

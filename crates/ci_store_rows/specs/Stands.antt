@@ -4,20 +4,8 @@ use Rattle.std.specs.Prelude.{◌≡◌, ◌⊎◌, ℕ, ◌==◌, if◌then◌e
 use Rattle.std.specs.List.{AllByRecursion}
 use Rattle.std.specs.declared.cmp.Ordering.{Ordering}
 use Rattle.std.specs.declared.cmp.Ordering.TheVariants.{Less}
-use Rattle.sqlite.specs.declared.types.Value.TheVariants.{Text}
-use Rattle.sqlite.specs.Order.{Row}
-use Rattle.sqlite.specs.Tree.{Trees}
-use Rattle.sqlite.specs.Effect.{Database}
-use Rattle.sqlite.specs.Store.{Ghosts}
-use Rattle.sqlite.specs.Held.{Held, state}
-use Rattle.sqlite_trees.specs.Tree.{IsAscending}
-use Rattle.ci_machine.specs.Kept.{Kept, row_cmp}
-use Rattle.ci_machine.specs.Holders.{holder_cmp}
-use Rattle.ci_machine.specs.State.{project_cmp, variable_cmp, runner_cmp, pipeline_cmp, job_cmp, job_variable_cmp, need_cmp, attempt_cmp, trace_cmp, mode_cmp}
-use Rattle.ci_machine.specs.declared.records.Numbers.{Numbers}
-use Rattle.ci_machine.specs.declared.change.Counter.{Counter}
-use Rattle.ci_machine.specs.declared.change.Counter.TheVariants as counter
-use Rattle.ci_store.specs.Stands.{HoldsRows}
+use Rattle.ci_store.specs.Prelude.{Text, Row, Trees, Database, Ghosts, Held, state, IsAscending, Kept, row_cmp, holder_cmp, project_cmp, variable_cmp, runner_cmp, pipeline_cmp}
+use Rattle.ci_store.specs.Prelude.{job_cmp, job_variable_cmp, need_cmp, attempt_cmp, trace_cmp, mode_cmp, Numbers, Counter, HoldsRows}
 use Rattle.serde_json.specs.Read.{read}
 use Rattle.ci_store_rows.specs.JsonText.{list_data, list_text, spec_data, spec_text}
 use Rattle.ci_store_rows.specs.Schema as table
@@ -30,11 +18,11 @@ meta_row key num = Text key ∷ number num ∷ []
 
 -- the key of a next number
 abbrev pub counter_key : Counter → List ℕ
-counter_key counter.Project = codes "next_project"
-counter_key counter.Runner = codes "next_runner"
-counter_key counter.Pipeline = codes "next_pipeline"
-counter_key counter.Job = codes "next_job"
-counter_key counter.Attempt = codes "next_attempt"
+counter_key Counter.Project = codes "next_project"
+counter_key Counter.Runner = codes "next_runner"
+counter_key Counter.Pipeline = codes "next_pipeline"
+counter_key Counter.Job = codes "next_job"
+counter_key Counter.Attempt = codes "next_attempt"
 
 -- the format, the version and the next numbers
 abbrev pub meta_rows : Numbers → List Row

@@ -2,10 +2,7 @@
 
 ghost use Rattle.std.specs.Prelude.{◌≡◌, IsTrue, IfOk, OnOk};
 ghost use Rattle.std.specs.List.{flat_map};
-ghost use Rattle.sqlite.specs.Order.{column};
-ghost use Rattle.sqlite.specs.State.{HasCleanDisk};
-ghost use Rattle.sqlite.specs.Held.{state};
-ghost use Rattle.ci_store.specs.Statements.{KeepsInside, CommitsNothing};
+ghost use Rattle.ci_store.specs.Prelude.{column, HasCleanDisk, state, KeepsInside, CommitsNothing};
 ghost use Rattle.ci_store_rows.specs.Changes.{PutsBlock};
 ghost use Rattle.ci_store_rows.specs.Load.{bytes_in};
 

@@ -1,7 +1,7 @@
 //! Rows of jobs' statuses.
 
 ghost use Rattle.std.specs.Prelude.{◌≡◌, IfSome};
-ghost use Rattle.ci_board.specs.Effects.{status_number};
+ghost use Rattle.ci_store.specs.Prelude.{status_number};
 
 use crate::read::{Loaded, Stored, count_at, has_columns};
 use crate::texts;

@@ -1,9 +1,7 @@
 //! The values of columns.
 
 ghost use Rattle.std.specs.Prelude.{◌≡◌};
-ghost use Rattle.sqlite.specs.Value.{owned};
-ghost use Rattle.sqlite.specs.Values.{or_null};
-ghost use Rattle.sqlite.specs.declared.types.Value.TheVariants.{Text as Words};
+ghost use Rattle.ci_store.specs.Prelude.{owned, or_null, Text as Words};
 ghost use Rattle.ci_store_rows.specs.Stands.{counter_key};
 ghost use Rattle.ci_store_rows.specs.Rows.{kind_number, source_number, cause_number, state_number, cause_in, exit_in, order_number};
 

@@ -1,7 +1,7 @@
 //! Jobs as rows.
 
 ghost use Rattle.std.specs.Prelude.{IfOk};
-ghost use Rattle.sqlite.specs.Order.{column};
+ghost use Rattle.ci_store.specs.Prelude.{column};
 ghost use Rattle.ci_store_rows.specs.Load.{HoldsSpec};
 
 use crate::columns::text;

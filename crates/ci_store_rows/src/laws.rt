@@ -2,7 +2,7 @@
 
 ghost use Rattle.std.specs.Prelude.{◌≡◌, ◌≤◌, ◌-◌, List, [], ◌∷◌, length, map, take, replicate, All, Option, None, IfSome};
 ghost use Rattle.std.specs.List.{flat_map, range_with_len, last_or};
-ghost use Rattle.ci_machine.specs.declared.records.Trace.{Trace};
+ghost use Rattle.ci_store.specs.Prelude.{Trace};
 ghost use Rattle.ci_store_rows.specs.Blocks.{blocks_of, block_sizes};
 
 /// Of the blocks of a trace each but the last has 16,384 bytes, and the last 1 to 16,384; they are numbered from 0 on, and joined they are the

@@ -2,11 +2,7 @@
 
 ghost use Rattle.std.specs.Prelude.{◌≡◌, length, IfOk, OnOk};
 ghost use Rattle.std.specs.List.{AllZip};
-ghost use Rattle.sqlite.specs.Order.{Row, column};
-ghost use Rattle.sqlite.specs.Values.{or_null};
-ghost use Rattle.sqlite.specs.declared.types.Value.TheVariants.{Text as Words, Blob};
-ghost use Rattle.ci_machine.specs.Kept.{Kept};
-ghost use Rattle.ci_store.specs.Statements.{KeepsInside, CommitsNothing};
+ghost use Rattle.ci_store.specs.Prelude.{Row, column, or_null, Text as Words, Blob, Kept, KeepsInside, CommitsNothing};
 ghost use Rattle.ci_store_rows.specs.Load.{HoldsList};
 ghost use Rattle.ci_store_rows.specs.Rows.{number, flag};
 ghost use Rattle.ci_store_rows.specs.Changes.{MakesInside};

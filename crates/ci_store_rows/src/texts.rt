@@ -179,9 +179,6 @@ pub const SELECT_ROW: &str = "SELECT job, status, open, failed, barred FROM boar
 pub const SELECT_ROWS_WITHIN: &str =
     "SELECT job, status, open, failed, barred FROM board WHERE job >= ?1 AND job <= ?2 ORDER BY job";
 
-pub const SELECT_ROWS_AFTER: &str =
-    "SELECT job, status, open, failed, barred FROM board WHERE status = ?1 AND job > ?2 ORDER BY job LIMIT ?3";
-
 pub const SELECT_ROWS_WITH: &str =
     "SELECT job, status, open, failed, barred FROM board WHERE status = ?1 ORDER BY job";
 

@@ -1,17 +1,7 @@
 -- What an opening finds, and what it leaves.
 use Rattle.std.proofs.Common.{◌≡◌, ◌≢◌, ◌∙◌, codes, inl, ⊎_elim, arith, IsTrue, refl, sym, ap, subst}
-use Rattle.sqlite.specs.Tree.{Trees}
-use Rattle.sqlite.specs.Effect.{Database, IsDatabase}
-use Rattle.sqlite.specs.State.{HasCleanDisk, Survives, IsUnchanged}
-use Rattle.sqlite.specs.Store.{Ghosts}
-use Rattle.sqlite.specs.Held.{Held, state}
-use Rattle.ci_machine.specs.Kept.{Kept}
-use Rattle.ci_store_rows.specs.Stands.{StandsIn, LeavesOnly}
-use Rattle.ci_store_sqlite.specs.Open.{HasNumber, LacksNumber, Blames, IsFailure, LeavesNoMore}
-use Rattle.ci_store_sqlite.specs.declared.tables.OpenFault.{OpenFault}
-use Rattle.ci_store_sqlite.specs.declared.tables.OpenFault.TheVariants.{O1, O2, O3, Memory}
-use Rattle.ci_store_sqlite.specs.Version1.{LeavesAny}
-use Rattle.ci_store_sqlite.specs.AnyVersion.{BlamesAny}
+use Rattle.ci_store.specs.Prelude.{Trees, Database, IsDatabase, HasCleanDisk, Survives, IsUnchanged, Ghosts, Held, state, Kept}
+use Rattle.ci_store_sqlite.specs.Prelude.{StandsIn, LeavesOnly, HasNumber, LacksNumber, Blames, IsFailure, LeavesNoMore, OpenFault, O1, O2, O3, Memory, LeavesAny, BlamesAny}
 use Rattle.ci_store_sqlite.proofs.Versions.{StandsAny, open_any, never_blamed_any, is_of_2}
 
 -- what is said of a foreign store is said of one of either version, where O2 is said of both
@@ -59,10 +49,6 @@ module _ {S : Type 0} (g : Ghosts S) (old mid new : Held S) (less : LeavesNoMore
   pub left_of_2 : HasCleanDisk (state g new) → (k : Kept) → LeavesOnly g k old → LeavesOnly g k new
   left_of_2 clean k only db leaves =
       ⊎_elim (λ was. only db (less (early clean) db was)) (λ made. made.1 k (λ db may. inl (only db (less (early clean) db may)))) (survives.crash clean db leaves)
-
-  pub less_but_1 : ¬ HasNumber (codes "version") 1 (state g old).now → LeavesNoMore g old new
-  less_but_1 other clean db leaves =
-      ⊎_elim (λ was. less (early clean) db was) (λ made. absurd (other (subst (HasNumber (codes "version") 1) (same (early clean)).0.now_is made.0))) (survives.crash clean db leaves)
 
   -- what is said of it is said of the store as it was
   pub as_it_was : (P : Database → Type 0) → HasCleanDisk (state g new) → P (state g mid).now → P (state g old).now

@@ -1,25 +1,12 @@
 -- Bytes behind the trace of an attempt, block by block.
 use Rattle.std.proofs.Common.{◌≡◌, ◌∙◌, ◌<◌, ◌≤◌, ℕ, ◌+◌, ◌*◌, List, [], ◌∷◌, ◌++◌, length, Option, Some, None, refl, sym, ap, subst, arith, IsTrue, length-append}
 use Rattle.std.proofs.lemmas.List.{append-nil, append_assoc}
-use Rattle.sqlite.specs.Schema.{Schema}
-use Rattle.sqlite.specs.Given.{IsPlain}
-use Rattle.sqlite.specs.Listing.{understood}
-use Rattle.sqlite.specs.Store.{Ghosts}
-use Rattle.sqlite.specs.Held.{Held, state}
-use Rattle.ci_machine.specs.Kept.{Kept}
-use Rattle.ci_machine.specs.Lookups.{trace_of}
+use Rattle.ci_store.specs.Prelude.{Schema, IsPlain, understood, Ghosts, Held, state, Kept, trace_of}
 use Rattle.ci_store.proofs.Selects.{shown_same}
-use Rattle.ci_store_rows.specs.declared.block.Block.{Block}
-use Rattle.ci_store_rows.specs.declared.block.TheConstants.{BLOCK_BYTES}
-use Rattle.ci_store_rows.specs.declared.texts.TheConstants.{SELECT_LAST_BLOCKS}
-use Rattle.ci_store_rows.specs.Blocks.{last_block, StaysWithin}
-use Rattle.ci_store_rows.specs.Rows.{number, block_row}
-use Rattle.ci_store_rows.specs.Found.{ShowsRecords, listed}
-use Rattle.ci_store_rows.specs.Stands.{Stands}
-use Rattle.ci_store_rows.specs.Changes.{appended, PutsBlock}
+use Rattle.ci_store_sqlite.specs.Prelude.{Block, BLOCK_BYTES, SELECT_LAST_BLOCKS, last_block, StaysWithin, number, block_row, ShowsRecords, listed, Stands, appended, PutsBlock}
+use Rattle.ci_store_sqlite.specs.Prelude.{kept_trace}
 use Rattle.ci_store_rows.proofs.BlockLists.{trace_grown, no_last, its_last, last_has_room, new_block}
 use Rattle.ci_store_rows.proofs.Blocks.{plain_select_last, last_found, stands_without_bytes, stands_in_two}
-use Rattle.ci_store_sqlite.specs.Appends.{kept_trace}
 
 -- the trace after bytes are behind it
 grown : (n : ℕ) (bytes : List ℕ) (k : Kept) → trace_of (appended n bytes k).state n ≡ trace_of k.state n ++ bytes

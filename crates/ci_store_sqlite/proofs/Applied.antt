@@ -1,14 +1,10 @@
 -- Changes in turn.
 use Rattle.std.proofs.Common.{◌≡◌, ◌∙◌, ℕ, ◌+◌, ◌<◌, List, [], ◌∷◌, fold, length, take, get_or, Result, OnOk, refl, sym, ap, subst}
 use Rattle.std.proofs.lemmas.List.Sums.{fold_more}
-use Rattle.sqlite.specs.Store.{Ghosts}
-use Rattle.sqlite.specs.Held.{Held}
-use Rattle.ci_machine.specs.Kept.{Kept, row_cmp, put_rows, indexed, indexed_all, cleared}
-use Rattle.ci_machine.specs.declared.records.BoardRow.{BoardRow}
-use Rattle.ci_machine.specs.State.{State, put, without, without_all, applied, changed}
-use Rattle.ci_machine.specs.declared.change.RowChange.{RowChange}
-use Rattle.ci_machine.specs.declared.change.IndexChange.{IndexChange}
-use Rattle.ci_store_rows.specs.Changes.{Makes}
+use Rattle.ci_store.specs.Prelude.{Ghosts, Held, Kept, row_cmp, put_rows, indexed, indexed_all, cleared, BoardRow, State, put, without_all, applied, changed, RowChange}
+use Rattle.ci_store.specs.Prelude.{IndexChange}
+use Rattle.ci_machine.specs.Prelude.{without}
+use Rattle.ci_store_sqlite.specs.Prelude.{Makes}
 
 applied_is : (cs : List RowChange) (s : State) → applied cs s ≡ fold (λ s c. changed c s) s cs
 applied_is [] s = refl

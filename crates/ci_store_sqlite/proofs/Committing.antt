@@ -1,16 +1,9 @@
 -- What a transaction leaves, however it ends.
 use Rattle.std.proofs.Common.{◌≡◌, ◌∙◌, inl, inr, ⊎_elim, IsTrue, true, false, refl, sym, ap, subst, arith}
-use Rattle.sqlite.specs.Tree.{Trees}
-use Rattle.sqlite.specs.Effect.{Database}
-use Rattle.sqlite.specs.State.{State as Seen, HasCleanDisk, Survives, IsUnchanged, Shows, KeepsCommit, IsRolledBack}
-use Rattle.sqlite.specs.Store.{Ghosts}
-use Rattle.sqlite.specs.Held.{Held, state}
+use Rattle.ci_store.specs.Prelude.{Trees, Database, HasCleanDisk, Survives, IsUnchanged, Shows, KeepsCommit, IsRolledBack, Ghosts, Held, state, Kept, nothing_kept}
+use Rattle.sqlite.specs.State.{State as Seen}
 use Rattle.sqlite.proofs.StateLemmas.{survives_then}
-use Rattle.ci_machine.specs.Kept.{Kept, nothing_kept}
-use Rattle.ci_store_rows.specs.Changes.{Makes}
-use Rattle.ci_store_sqlite.specs.Commit.{CommitsAll, IsBack, IsDone}
-use Rattle.ci_store_rows.specs.Create.{IsBlank}
-use Rattle.ci_store_rows.specs.Stands.{Stands, StandsIn, IsAt, LeavesOnly, LeavesEither}
+use Rattle.ci_store_sqlite.specs.Prelude.{Makes, CommitsAll, IsBack, IsDone, IsBlank, Stands, StandsIn, IsAt, LeavesOnly, LeavesEither}
 
 -- where nothing happens, a stop leaves what it left
 pub survives_same : (s : Seen) (P : Trees → Type 0) → Survives s s P

@@ -1,19 +1,14 @@
 -- How loads meet one after the other.
 use Rattle.std.proofs.Common.{◌≡◌, Result, Ok, Err, IfOk, subst}
-use Rattle.ci_machine.specs.Kept.{Kept}
+use Rattle.ci_store.specs.Prelude.{Kept, LoadsBy, UnlessBroken}
 use Rattle.ci_store.specs.declared.fault.StoreFault.{StoreFault}
 use Rattle.ci_store.specs.declared.fault.StoreFault.TheVariants.{Memory, Broken}
 use Rattle.ci_store_rows.proofs.Reading.{if_ok}
-use Rattle.ci_store.specs.Store.{LoadsBy, UnlessBroken}
 
 pub unless_broken : {A P : Type 0} (r : Result A StoreFault) → P → UnlessBroken r P
 unless_broken (Ok x) p = p
 unless_broken (Err Memory) p = p
 unless_broken (Err Broken) p = tt
-
-same_fault : (A B P : Type 0) (fault : StoreFault) → UnlessBroken {A = A} (Err fault) P → UnlessBroken {A = B} (Err fault) P
-same_fault A B P Memory p = p
-same_fault A B P Broken p = tt
 
 module _ {T : Type 0} {honest : T → Type 0} {holds : T → Kept → Type 0} {leaves : T → Kept → Kept → Type 0} where
   -- an answer that follows from another
@@ -37,32 +32,4 @@ module _ {T : Type 0} {honest : T → Type 0} {holds : T → Kept → Type 0} {l
     kept = λ clean k at. unless_broken r (load.kept clean k at);
     left = load.left;
     answered = λ clean k at. so k at (load.answered clean k at);
-  }
-
-  -- the fault of a load is that of the call
-  pub after_err : {A B : Type 0} {old new : T} {P : Kept → A → Type 0} {Q : Kept → B → Type 0} (fault : StoreFault) → LoadsBy honest holds leaves old new (Err fault) P → LoadsBy honest holds leaves old new (Err fault) Q
-  after_err {A = A} {B = B} {new = new} fault load = record {
-    was_honest = load.was_honest;
-    kept = λ clean k at. same_fault A B (holds new k) fault (load.kept clean k at);
-    left = load.left;
-    answered = λ clean k at. tt;
-  }
-
-  -- a load after a load
-  pub after_load : {A B : Type 0} {old mid new : T} {x : A} {P : Kept → A → Type 0} {Q R : Kept → B → Type 0} {r : Result B StoreFault} → LoadsBy honest holds leaves old mid (Ok x) P → LoadsBy honest holds leaves mid new r Q
-      → ((k : Kept) → holds old k → P k x → (y : B) → Q k y → R k y) → LoadsBy honest holds leaves old new r R
-  after_load {r = r} first second so = record {
-    was_honest = λ clean. first.was_honest (second.was_honest clean);
-    kept = λ clean k at. second.kept clean k (first.kept (second.was_honest clean) k at);
-    left = λ clean k at. second.left clean k (first.kept (second.was_honest clean) k at);
-    answered = λ clean k at. if_ok r (so k at (first.answered (second.was_honest clean) k at)) (second.answered clean k (first.kept (second.was_honest clean) k at));
-  }
-
-  -- a call that didn't get to the store
-  pub without_load : {B : Type 0} {Q : Kept → B → Type 0} (store : T) (fault : StoreFault) → ((k : Kept) → holds store k → leaves store k k) → LoadsBy honest holds leaves store store (Err fault) Q
-  without_load {B = B} store fault is_left = record {
-    was_honest = λ clean. clean;
-    kept = λ clean k at. unless_broken {A = B} (Err fault) at;
-    left = λ clean k at. is_left k at;
-    answered = λ clean k at. tt;
   }

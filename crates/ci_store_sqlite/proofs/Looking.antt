@@ -1,33 +1,16 @@
 -- A look-up on tables.
 use Rattle.std.proofs.Common.{◌≡◌, ◌∙◌, ◌<◌, ◌≤◌, ℕ, List, [], ◌∷◌, length, get_or, Option, Some, None, false, Result, Ok, Err, is_err, IfOk, IsTrue, OnOk, refl, sym, subst, ⊎_elim, arith, inl}
 use Rattle.std.specs.List.{AllZip}
-use Rattle.sqlite.specs.Order.{Row}
-use Rattle.sqlite.specs.Schema.{Schema}
-use Rattle.sqlite.specs.Effect.{Database, IsDatabase}
+use Rattle.ci_store.specs.Prelude.{Row, Schema, Database, IsDatabase, IsPlain, understood, reads_listing, IsSourceOf, HasCleanDisk, Survives, IsUnchanged, Shown, ShowsRows, Ghosts}
+use Rattle.ci_store.specs.Prelude.{Held, state, Returning, Compiled, doubt, Kept, Ends}
 use Rattle.sqlite.specs.Clock.{timed}
-use Rattle.sqlite.specs.Given.{IsPlain}
-use Rattle.sqlite.specs.Listing.{understood, reads_listing, IsSourceOf}
-use Rattle.sqlite.specs.State.{State, HasCleanDisk, Survives, IsUnchanged, Shown, ShowsRows}
-use Rattle.sqlite.specs.Store.{Ghosts}
-use Rattle.sqlite.specs.Held.{Held, state}
-use Rattle.sqlite_schema.specs.declared.command.Returning.{Returning}
-use Rattle.sqlite_resolve.specs.declared.compiled.Compiled.{Compiled}
-use Rattle.sqlite_trees.specs.View.{doubt}
-use Rattle.ci_machine.specs.Kept.{Kept}
+use Rattle.sqlite.specs.State.{State}
 use Rattle.ci_store.specs.declared.fault.StoreFault.{StoreFault}
 use Rattle.ci_store.specs.declared.fault.StoreFault.TheVariants.{Memory, Broken}
-use Rattle.ci_store_rows.specs.Schema.{the_schema}
-use Rattle.ci_store_rows.specs.Stands.{Stands, StandsIn, IsAt, LeavesOnly, LeavesEither}
-use Rattle.ci_store_rows.specs.Found.{ShowsRecords}
+use Rattle.ci_store_sqlite.specs.Prelude.{the_schema, Stands, StandsIn, IsAt, LeavesOnly, LeavesEither, ShowsRecords, Loads, LooksUp}
 use Rattle.ci_store_rows.proofs.Reading.{if_ok}
 use Rattle.ci_store_rows.proofs.Whole.{stands_whole}
-use Rattle.ci_store_sqlite.specs.Calls.{Loads, LooksUp}
-use Rattle.ci_store.specs.Store.{Ends}
-use Rattle.ci_store_sqlite.proofs.Loading.{unless_broken, without_load, answered_so, after_ok}
-
--- a call that didn't get to the tables
-pub no_look : {S A : Type 0} (g : Ghosts S) (h : Held S) (fault : StoreFault) (Q : Kept → A → Type 0) → Loads g h h (Err fault) Q
-no_look g h fault Q = without_load h fault (λ k only db may. inl (only db may))
+use Rattle.ci_store_sqlite.proofs.Loading.{unless_broken, answered_so, after_ok}
 
 -- a call that needn't look
 pub unasked : {S A : Type 0} (g : Ghosts S) (h : Held S) (x : A) (Q : Kept → A → Type 0) → ((k : Kept) → Q k x) → Loads g h h (Ok x) Q
@@ -63,14 +46,6 @@ unchanged_then one two = (
   },
   record { changes = two.1.changes ∙ one.1.changes; last_rowid = two.1.last_rowid ∙ one.1.last_rowid },
   two.2 ∙ one.2,
-)
-
--- an open connection to which nothing is done
-pub unchanged : (s : State) → IsTrue s.is_open → IsUnchanged s s
-unchanged s is_open = (
-  record { was_open = is_open; is_open = is_open; now_is = refl; committed_is = refl; mode = refl },
-  record { changes = refl; last_rowid = refl },
-  refl,
 )
 
 -- a query that shows rows shows them of the connection as it was before it was asked, too
@@ -109,15 +84,6 @@ open_at g k h is_open settled sound may only = record {
 }
 
 module _ {S : Type 0} (g : Ghosts S) (old mid : Held S) (clean : doubt (state g old).is_clean ≤ doubt (state g mid).is_clean) where
-  -- the connection was asked in vain
-  pub unheard : {A : Type 0} (fault : StoreFault) (Q : Kept → A → Type 0) → (HasCleanDisk (state g mid) → (k : Kept) → LeavesOnly g k old → LeavesOnly g k mid) → Loads g old mid (Err fault) Q
-  unheard {A = A} fault Q left = record {
-    was_honest = λ late. omega (arith, clean, late);
-    kept = λ late k only. unless_broken {A = A} (Err fault) (left late k only);
-    left = λ late k only db may. inl (left late k only db may);
-    answered = λ late k only. tt;
-  }
-
   module _ (new : Held S) (sql : List ℕ) (plain : IsPlain (understood the_schema sql)) (same : HasCleanDisk (state g mid) → IsUnchanged (state g old) (state g mid))
       (intact : HasCleanDisk (state g mid) → (k : Kept) → LeavesOnly g k old → IsAt g k mid) (cleaner : doubt (state g mid).is_clean ≤ doubt (state g new).is_clean)
       (survives : HasCleanDisk (state g new) → IsPlain (understood (state g mid).now.schema sql) → Survives (state g mid) (state g new) (λ _. ⊥)) where

@@ -2,38 +2,19 @@
 use Rattle.std.proofs.Common.{◌≡◌, ◌∙◌, ℕ, List, [], ◌∷◌, ◌++◌, codes, map, drop, None, Ok, true, false, IsTrue, sym, ap, subst, IsPermutation}
 use Rattle.std.specs.List.{AllByRecursion}
 use Rattle.std.proofs.lemmas.List.Sorted.{IsPermutation-sym, IsPermutation-refl, IsPermutation-middle}
-use Rattle.sqlite.specs.declared.types.Value.TheVariants.{Text}
+use Rattle.ci_store.specs.Prelude.{Text, value_cmp, Row, Table, Schema, Trees, Database, Tally, lacks_sequence, Shows, Executes, Ghosts, Held, state, CreateTable, created}
+use Rattle.ci_store.specs.Prelude.{next_tree, KeepsRows, IsSound, IsShaped, Kept, Numbers, image, places, without, Holds, IsOf}
 use Rattle.sqlite_sql.specs.Ops.{binary}
-use Rattle.sqlite_value.specs.Order.{value_cmp}
-use Rattle.sqlite.specs.Order.{Row}
-use Rattle.sqlite.specs.Table.{Table}
-use Rattle.sqlite.specs.Schema.{Schema}
-use Rattle.sqlite.specs.Tree.{Trees}
-use Rattle.sqlite.specs.Effect.{Database}
-use Rattle.sqlite.specs.Does.{Tally, lacks_sequence}
-use Rattle.sqlite.specs.State.{State, Shows, Writes, Executes}
-use Rattle.sqlite.specs.Store.{Ghosts}
-use Rattle.sqlite.specs.Held.{Held, state}
-use Rattle.sqlite.specs.Command.TheVariants.{CreateTable}
+use Rattle.sqlite.specs.State.{State, Writes}
 use Rattle.sqlite.proofs.Callers.{runs_as}
-use Rattle.sqlite_catalog.specs.Change.{created, next_tree, KeepsRows}
-use Rattle.sqlite_catalog.specs.Listing.{IsSound}
-use Rattle.sqlite_trees.specs.View.{IsShaped}
 use Rattle.sqlite_trees.specs.declared.store.Shape.TheVariants as shape
-use Rattle.ci_machine.specs.Kept.{Kept}
-use Rattle.ci_machine.specs.declared.records.Numbers.{Numbers}
-use Rattle.ci_store.specs.Stands.{image, places, without, Holds, IsOf}
 use Rattle.ci_store.proofs.Puts.{updates_one}
-use Rattle.ci_store_rows.specs.declared.texts.TheConstants.{UPDATE_META, INSERT_META}
-use Rattle.ci_store_rows.specs.declared.version2.TheConstants.{CREATE_MODE}
-use Rattle.ci_store_rows.specs.Schema.{the_schema, meta, mode}
-use Rattle.ci_store_rows.specs.Rows.{mode_row}
-use Rattle.ci_store_rows.specs.Stands.{meta_row, meta_rows, rows_by_tree, rows_of, Stands, StandsIn, IsAt}
+use Rattle.ci_store_sqlite.specs.Prelude.{UPDATE_META, INSERT_META, CREATE_MODE, the_schema, meta, mode, mode_row, meta_row, meta_rows, rows_by_tree, rows_of, Stands, StandsIn}
+use Rattle.ci_store_sqlite.specs.Prelude.{IsAt, schema_of_1, meta_rows_of_1, rows_of_1, Stands1, HasTable}
 use Rattle.ci_store_rows.proofs.OneList.{alike_but}
 use Rattle.ci_store_rows.proofs.Records.{is}
 use Rattle.ci_store_rows.proofs.Meta.{sets, terms, means, gives}
 use Rattle.ci_store_rows.proofs.Creates.{went, same_value, MeansTable, makes_mode}
-use Rattle.ci_store_sqlite.specs.Version1.{schema_of_1, meta_rows_of_1, rows_of_1, Stands1, HasTable}
 
 -- ---- CREATE TABLE over tables that have rows
 

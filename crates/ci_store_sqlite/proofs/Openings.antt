@@ -1,38 +1,18 @@
 -- What an opening finds of `meta`.
-use Rattle.std.proofs.Common.{◌≡◌, ◌≢◌, ◌∙◌, ◌<◌, ◌≤◌, ℕ, pos, List, [], ◌∷◌, length, get_or, filter, codes, Bool, true, false, MatchBool, Result, Ok, Err, IfOk, inl, inr, refl, sym, ap, subst, subst₂, append-nil, arith, IsPermutation}
-use Rattle.sqlite.specs.declared.types.Value.TheVariants.{Int, Text}
-use Rattle.sqlite.specs.Order.{Row, column}
-use Rattle.sqlite.specs.Effect.{Database, Reads}
-use Rattle.sqlite.specs.Listing.{understood, reads_listing, IsSourceOf}
-use Rattle.sqlite.specs.State.{State as Seen, Shown, ShowsRows, IsUnchanged, Survives, CommitsShowing, IsNotRun, store_error}
+use Rattle.std.proofs.Common.{◌≡◌, ◌≢◌, ◌∙◌, ◌<◌, ◌≤◌, ℕ, List, [], ◌∷◌, length, get_or, filter, codes, Bool, true, false, MatchBool, Result, Ok, Err, IfOk, inl, inr, refl, sym, ap, subst, subst₂, append-nil, arith, IsPermutation}
+use Rattle.ci_store.specs.Prelude.{Text, Row, column, Database, Reads, understood, reads_listing, IsSourceOf, Shown, ShowsRows, IsUnchanged, Survives, CommitsShowing, IsNotRun}
+use Rattle.ci_store.specs.Prelude.{store_error, Trees, Schema, value_cmp, everything, Compiled, CompileError, first, StoreError, OutOfMemory, Io, Corrupt, Full, Broken as Closed}
+use Rattle.ci_store.specs.Prelude.{Unstorable, SqlInputError, Kept, Numbers, has_key}
+use Rattle.sqlite.specs.State.{State as Seen}
 use Rattle.sqlite.specs.Clock.{timed}
-use Rattle.sqlite.specs.Tree.{Trees}
-use Rattle.sqlite.specs.Schema.{Schema}
 use Rattle.sqlite_sql.specs.Ops.{binary}
-use Rattle.sqlite_value.specs.Order.{value_cmp}
-use Rattle.sqlite_tied.specs.Compute.{everything}
-use Rattle.sqlite_resolve.specs.declared.compiled.Compiled.{Compiled}
-use Rattle.sqlite_resolve.specs.declared.error.CompileError.{CompileError}
-use Rattle.sqlite_resolve.specs.Compile.{first}
-use Rattle.sqlite_trees.specs.declared.error.StoreError.{StoreError}
-use Rattle.sqlite_trees.specs.declared.error.StoreError.TheVariants.{OutOfMemory, Io, Corrupt, Full, Broken as Closed, Unstorable}
-use Rattle.sqlite.specs.declared.error.Error.TheVariants.{SqlInputError}
 use Rattle.sqlite.proofs.Callers.{IsPlain, command_of, one_permutation}
-use Rattle.ci_machine.specs.Kept.{Kept}
-use Rattle.ci_machine.specs.declared.records.Numbers.{Numbers}
 use Rattle.ci_store.specs.declared.fault.StoreFault.{StoreFault}
 use Rattle.ci_store.specs.declared.fault.StoreFault.TheVariants.{Memory as Refused, Broken}
-use Rattle.ci_store.specs.Stands.{has_key}
 use Rattle.ci_store.proofs.Plain.{is_selecting, plain_under}
 use Rattle.ci_store.proofs.Selects.{selects_of}
-use Rattle.ci_store_rows.specs.declared.texts.TheConstants.{SELECT_META}
-use Rattle.ci_store_sqlite.specs.declared.tables.OpenFault.{OpenFault}
-use Rattle.ci_store_sqlite.specs.declared.tables.OpenFault.TheVariants.{O1, O2, O3, Memory}
-use Rattle.ci_store_rows.specs.Schema.{the_schema, meta}
-use Rattle.ci_store_rows.specs.Create.{no_schema}
-use Rattle.ci_store_sqlite.specs.Open.{SelectsMeta, HasNumber, LacksNumber, Blames, IsFailure, open_fault_of}
-use Rattle.ci_store_rows.specs.Rows.{number}
-use Rattle.ci_store_rows.specs.Stands.{Stands, meta_row, meta_rows}
+use Rattle.ci_store_sqlite.specs.Prelude.{SELECT_META, OpenFault, O1, O2, O3, Memory, the_schema, meta, SelectsMeta, HasNumber, LacksNumber, Blames, IsFailure}
+use Rattle.ci_store_sqlite.specs.Prelude.{open_fault_of, number, Stands, meta_row, meta_rows}
 use Rattle.ci_store_rows.proofs.NextLoads.{means_meta, plain_meta}
 use Rattle.ci_store_rows.proofs.Records.{is}
 use Rattle.ci_store_rows.proofs.Shows.{held}
@@ -111,13 +91,6 @@ unfolding IsNotRun
 not_run_same params old new fault (inl h) = h.1
 not_run_same params old new fault (inr fails) = absurd (not_as_store fails.0 fault fails.1)
 
--- ---- a column without a number
-
-pub no_number : (row : Row) (num : ℕ) → (1 < length row → ¬ ((n : ℕ) × (column row 1 ≡ Int (pos n)))) → column row 1 ≢ number num
-no_number [] num none is = absurd cc
-no_number (x ∷ []) num none is = absurd cc
-no_number (x ∷ y ∷ row) num none is = none (omega arith) (num, is)
-
 -- ---- a store that holds a state is of this format and version
 
 pub of_state : (k : Kept) (db : Database) → Stands k db → (key : List ℕ) (num : ℕ) → filter (has_key (Text key ∷ [])) (meta_rows k.state.next) ≡ meta_row key num ∷ [] → (rows : List Row) → SelectsMeta key rows db → rows ≡ meta_row key num ∷ []
@@ -155,14 +128,3 @@ blames_none Broken db = tt
 pub is_failure : (fault : StoreFault) → IsFailure (open_fault_of fault)
 is_failure Refused = tt
 is_failure Broken = tt
-
-pub not_O1 : (fault : StoreFault) → open_fault_of fault ≢ O1
-not_O1 Refused is = absurd cc
-not_O1 Broken is = absurd cc
-
-pub not_O2 : (fault : StoreFault) → open_fault_of fault ≢ O2
-not_O2 Refused is = absurd cc
-not_O2 Broken is = absurd cc
-
-pub lists_nothing : (schema : Schema) → schema.tables ≡ [] → schema.indexes ≡ [] → schema.views ≡ [] → schema ≡ no_schema
-lists_nothing schema tables indexes views = λ i. record { tables = tables i; indexes = indexes i; views = views i }

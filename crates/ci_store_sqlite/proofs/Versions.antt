@@ -1,40 +1,20 @@
 -- Which version a store has that stands for what is kept.
 use Rattle.std.proofs.Common.{◌≡◌, ◌∙◌, ◌⊎◌, ◌≤◌, ◌≢◌, ℕ, List, [], ◌∷◌, filter, length, nat_le, codes, inl, inr, ⊎_elim, arith, IsTrue, refl, sym, ap, subst, subst₂, IsPermutation}
 use Rattle.std.proofs.lemmas.Bool.{leb-true}
-use Rattle.sqlite.specs.declared.types.Value.TheVariants.{Text}
+use Rattle.ci_store.specs.Prelude.{Text, value_cmp, Row, column, Table, Schema, Database, IsDatabase, Reads, understood, reads_listing, IsSourceOf, HasCleanDisk, Survives}
+use Rattle.ci_store.specs.Prelude.{IsUnchanged, Ghosts, Held, state, everything, Has, Kept, Numbers, has_key}
 use Rattle.sqlite_sql.specs.Ops.{binary}
-use Rattle.sqlite_value.specs.Order.{value_cmp}
-use Rattle.sqlite.specs.Order.{Row, column}
-use Rattle.sqlite.specs.Table.{Table}
-use Rattle.sqlite.specs.Schema.{Schema}
-use Rattle.sqlite.specs.Effect.{Database, IsDatabase, Reads}
-use Rattle.sqlite.specs.Listing.{understood, reads_listing, IsSourceOf}
-use Rattle.sqlite.specs.State.{HasCleanDisk, Survives, IsUnchanged}
-use Rattle.sqlite.specs.Store.{Ghosts}
-use Rattle.sqlite.specs.Held.{Held, state}
-use Rattle.sqlite_tied.specs.Compute.{everything}
 use Rattle.sqlite.proofs.Callers.{IsPlain, command_of, one_permutation}
 use Rattle.sqlite.proofs.StateLemmas.{survives_then}
-use Rattle.sqlite_rules.specs.Lists.{Has}
 use Rattle.sqlite_rules.proofs.ListLemmas.{test_has}
-use Rattle.ci_machine.specs.Kept.{Kept}
-use Rattle.ci_machine.specs.declared.records.Numbers.{Numbers}
-use Rattle.ci_store.specs.Stands.{has_key}
 use Rattle.ci_store.proofs.OneSchema.{one_schema}
 use Rattle.ci_store.proofs.Selects.{MeansSelect, selects_of}
-use Rattle.ci_store_rows.specs.declared.texts.TheConstants.{SELECT_META}
-use Rattle.ci_store_rows.specs.Schema.{meta}
-use Rattle.ci_store_rows.specs.Stands.{meta_row, Stands, StandsIn}
-use Rattle.ci_store_rows.specs.Rows.{number}
+use Rattle.ci_store_sqlite.specs.Prelude.{SELECT_META, meta, meta_row, Stands, StandsIn, number, SelectsMeta, HasNumber, LacksNumber, IsFailure, OpenFault, O1, O2, O3, Memory}
+use Rattle.ci_store_sqlite.specs.Prelude.{schema_of_1, meta_rows_of_1, StandsIn1, Stands1, StandsInAny, LeavesAny, BlamesAny}
 use Rattle.ci_store_rows.proofs.Records.{is}
 use Rattle.ci_store_rows.proofs.Shows.{columns_of, names_of}
 use Rattle.ci_store_rows.proofs.Whole.{stands_whole}
-use Rattle.ci_store_sqlite.specs.Open.{SelectsMeta, HasNumber, LacksNumber, IsFailure}
-use Rattle.ci_store_sqlite.specs.declared.tables.OpenFault.{OpenFault}
-use Rattle.ci_store_sqlite.specs.declared.tables.OpenFault.TheVariants.{O1, O2, O3, Memory}
 use Rattle.ci_store_sqlite.proofs.Openings.{of_state, version_row, never_blamed}
-use Rattle.ci_store_sqlite.specs.Version1.{schema_of_1, meta_rows_of_1, StandsIn1, Stands1, StandsInAny, LeavesAny}
-use Rattle.ci_store_sqlite.specs.AnyVersion.{BlamesAny}
 
 -- ---- a store of version 1 lists its schema alone
 

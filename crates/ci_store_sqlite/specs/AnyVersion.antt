@@ -1,6 +1,6 @@
 -- What an opening finds of a store, of version 1 or 2, and why it is refused.
 use Rattle.std.specs.Prelude.{Bool, true, false, codes}
-use Rattle.sqlite.specs.Effect.{Database}
+use Rattle.ci_store.specs.Prelude.{Database}
 use Rattle.ci_store_sqlite.specs.declared.tables.OpenFault.{OpenFault}
 use Rattle.ci_store_sqlite.specs.declared.tables.OpenFault.TheVariants.{O1, O2, O3, Memory}
 use Rattle.ci_store_sqlite.specs.Open.{HasNumber, LacksNumber, Blames}

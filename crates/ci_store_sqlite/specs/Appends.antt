@@ -1,12 +1,7 @@
 -- What calls inside a transaction find, and what they make of the tables where they keep what was found.
 use Rattle.std.specs.Prelude.{ℕ, Result, IsTrue, IfOk, OnOk}
-use Rattle.sqlite.specs.State.{HasCleanDisk}
-use Rattle.sqlite.specs.Store.{Ghosts}
-use Rattle.sqlite.specs.Held.{Held, state}
-use Rattle.ci_machine.specs.Kept.{Kept}
-use Rattle.ci_machine.specs.Lookups.{trace_of}
-use Rattle.ci_machine.specs.declared.records.Trace.{Trace}
-use Rattle.ci_store_rows.specs.Stands.{Stands}
+use Rattle.ci_store.specs.Prelude.{HasCleanDisk, Ghosts, Held, state, Kept, trace_of, Trace}
+use Rattle.ci_store_rows.specs.Prelude.{Stands}
 
 -- the trace of an attempt that the tables keep
 abbrev pub kept_trace : ℕ → Kept → Trace

@@ -1,12 +1,8 @@
 -- What a load makes of the tables.
 use Rattle.std.specs.Prelude.{Result}
-use Rattle.sqlite.specs.State.{HasCleanDisk}
-use Rattle.sqlite.specs.Store.{Ghosts}
-use Rattle.sqlite.specs.Held.{Held, state}
-use Rattle.ci_machine.specs.Kept.{Kept}
+use Rattle.ci_store.specs.Prelude.{HasCleanDisk, Ghosts, Held, state, Kept, LoadsBy}
 use Rattle.ci_store.specs.declared.fault.StoreFault.{StoreFault}
-use Rattle.ci_store_rows.specs.Stands.{IsAt, LeavesOnly, LeavesEither}
-use Rattle.ci_store.specs.Store.{LoadsBy}
+use Rattle.ci_store_rows.specs.Prelude.{IsAt, LeavesOnly, LeavesEither}
 
 -- a call on tables only loads, and its answer is so of what a stop leaves
 abbrev pub Loads : {S A : Type 0} → Ghosts S → Held S → Held S → Result A StoreFault → (Kept → A → Type 0) → Type 0

@@ -1,21 +1,14 @@
 -- What a transaction of changes makes of the tables.
 use Rattle.std.specs.Prelude.{◌≡◌, ℕ, Bool, true, false, List, IsTrue, if◌then◌else◌}
 use Rattle.std.specs.List.{list_any}
-use Rattle.sqlite.specs.Tree.{Trees}
-use Rattle.sqlite.specs.Store.{Ghosts}
-use Rattle.sqlite.specs.Held.{Held, state}
-use Rattle.ci_machine.specs.Kept.{Kept}
-use Rattle.ci_machine.specs.declared.change.RowChange.{RowChange}
-use Rattle.ci_machine.specs.declared.change.RowChange.TheVariants.{Put}
-use Rattle.ci_machine.specs.declared.change.Record.TheVariants as row
-use Rattle.ci_machine.specs.declared.change.Counter.TheVariants as counter
+use Rattle.ci_store.specs.Prelude.{Trees, Ghosts, Held, state, Kept, RowChange, Put, Record, Counter}
 use Rattle.ci_store_sqlite.specs.declared.commit.Ended.{Ended}
 use Rattle.ci_store_sqlite.specs.declared.commit.Ended.TheVariants.{Done, Undone}
-use Rattle.ci_store_rows.specs.Stands.{Stands, StandsIn}
+use Rattle.ci_store_rows.specs.Prelude.{Stands, StandsIn}
 
 -- a change puts the next number of jobs
 abbrev pub is_next_job : RowChange → Bool
-is_next_job (Put (row.Next counter.Job n)) = true
+is_next_job (Put (Record.Next Counter.Job n)) = true
 is_next_job _ = false
 
 -- the number from which on jobs are new, where this one is next: that one, where the changes put the next; else the greatest of 64 bits

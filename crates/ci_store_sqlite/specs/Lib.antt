@@ -8,3 +8,4 @@ pub mod Commit
 pub mod Open
 pub mod Version1
 pub mod AnyVersion
+pub mod Prelude

@@ -1,21 +1,12 @@
 -- What an opening finds of a store: whether `meta` has the format and the version, and why it is refused.
 use Rattle.std.specs.Prelude.{◌≡◌, ◌⊎◌, ℕ, List, [], ◌∷◌, codes, Ok, Err}
-use Rattle.sqlite.specs.declared.types.Value.TheVariants.{Text}
-use Rattle.sqlite.specs.Order.{Row, column}
-use Rattle.sqlite.specs.Effect.{Database, Reads}
-use Rattle.sqlite.specs.Listing.{understood, reads_listing, IsSourceOf}
-use Rattle.sqlite.specs.Tree.{Trees}
-use Rattle.sqlite.specs.State.{HasCleanDisk}
-use Rattle.sqlite.specs.Store.{Ghosts}
-use Rattle.sqlite.specs.Held.{Held, state}
-use Rattle.sqlite_resolve.specs.declared.compiled.Compiled.{Compiled}
-use Rattle.sqlite_resolve.specs.declared.error.CompileError.{CompileError}
+use Rattle.ci_store.specs.Prelude.{Text, Row, column, Database, Reads, understood, reads_listing, IsSourceOf, Trees, HasCleanDisk, Ghosts, Held, state, Compiled, CompileError}
 use Rattle.ci_store.specs.declared.fault.StoreFault.{StoreFault}
 use Rattle.ci_store.specs.declared.fault.StoreFault.TheVariants.{Memory as Refused, Broken}
 use Rattle.ci_store_rows.specs.declared.texts.TheConstants.{SELECT_META}
 use Rattle.ci_store_sqlite.specs.declared.tables.OpenFault.{OpenFault}
 use Rattle.ci_store_sqlite.specs.declared.tables.OpenFault.TheVariants.{O1, O2, O3, Memory}
-use Rattle.ci_store_rows.specs.Rows.{number}
+use Rattle.ci_store_rows.specs.Prelude.{number}
 
 -- a fault of the store is memory that was refused, or else that the store failed
 abbrev pub open_fault_of : StoreFault → OpenFault

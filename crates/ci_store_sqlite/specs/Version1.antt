@@ -1,17 +1,7 @@
 -- What it means that a store of version 1 stands for what is kept, and that one of either version does.
 use Rattle.std.specs.Prelude.{◌≡◌, ◌⊎◌, ℕ, List, [], ◌∷◌, drop, codes}
-use Rattle.sqlite.specs.Order.{Row}
-use Rattle.sqlite.specs.Schema.{Schema}
-use Rattle.sqlite.specs.Tree.{Trees}
-use Rattle.sqlite.specs.Effect.{Database}
-use Rattle.sqlite.specs.Store.{Ghosts}
-use Rattle.sqlite.specs.Held.{Held, state}
-use Rattle.sqlite_catalog.specs.Change.{without_table}
-use Rattle.ci_machine.specs.Kept.{Kept}
-use Rattle.ci_machine.specs.declared.records.Numbers.{Numbers}
-use Rattle.ci_store.specs.Stands.{HoldsRows, IsOf}
-use Rattle.ci_store_rows.specs.Schema.{the_schema, meta, mode}
-use Rattle.ci_store_rows.specs.Stands.{meta_row, meta_rows, rows_by_tree, rows_at, IsRegular, StandsIn}
+use Rattle.ci_store.specs.Prelude.{Row, Schema, Trees, Database, Ghosts, Held, state, without_table, Kept, Numbers, HoldsRows, IsOf}
+use Rattle.ci_store_rows.specs.Prelude.{the_schema, meta, mode, meta_row, meta_rows, rows_by_tree, rows_at, IsRegular, StandsIn}
 
 -- the tables and indexes of version 1: all but the table `mode` with its index
 abbrev pub schema_of_1 : Schema

@@ -1,13 +1,8 @@
 //! Bytes behind the trace of an attempt: they fill its last block, and what is left makes new ones.
 
 ghost use Rattle.std.specs.Prelude.{◌≡◌, ◌<◌, ◌≤◌, ◌+◌, ◌*◌, length, Some};
-ghost use Rattle.sqlite.specs.Held.{state};
-ghost use Rattle.ci_machine.specs.State.{changed};
-ghost use Rattle.ci_machine.specs.Lookups.{trace_of};
-ghost use Rattle.ci_machine.specs.declared.change.RowChange.TheVariants.{Append};
-ghost use Rattle.ci_store.specs.Statements.{KeepsInside, CommitsNothing};
-ghost use Rattle.ci_store_rows.specs.Blocks.{last_block};
-ghost use Rattle.ci_store_rows.specs.Changes.{in_state, appended, MakesInside};
+ghost use Rattle.ci_store.specs.Prelude.{state, changed, trace_of, Append, KeepsInside, CommitsNothing};
+ghost use Rattle.ci_store_rows.specs.Prelude.{last_block, in_state, appended, MakesInside};
 ghost use Rattle.ci_store_sqlite.specs.Appends.{kept_trace, FindsInside, MakesWhere};
 
 use ci_machine::records::Trace;

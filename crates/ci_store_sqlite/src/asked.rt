@@ -1,14 +1,8 @@
 //! A connection that is asked whether it is open still, before a call where that is in doubt.
 
 ghost use Rattle.std.specs.Prelude.{◌≡◌, false, IsTrue, OnOk};
-ghost use Rattle.sqlite.specs.Given.{IsPlain};
-ghost use Rattle.sqlite.specs.Listing.{understood};
-ghost use Rattle.sqlite.specs.Values.{bound};
-ghost use Rattle.sqlite.specs.State.{HasCleanDisk, Survives, IsUnchanged, Shown};
-ghost use Rattle.sqlite.specs.Held.{state};
-ghost use Rattle.ci_machine.specs.Kept.{Kept};
-ghost use Rattle.ci_store_rows.specs.Schema.{the_schema};
-ghost use Rattle.ci_store_rows.specs.Stands.{IsAt, LeavesOnly};
+ghost use Rattle.ci_store.specs.Prelude.{IsPlain, understood, bound, HasCleanDisk, Survives, IsUnchanged, Shown, state, Kept};
+ghost use Rattle.ci_store_rows.specs.Prelude.{the_schema, IsAt, LeavesOnly};
 ghost use Rattle.ci_store_sqlite.specs.Calls.{LooksUp};
 
 use crate::probe::probe_intact;

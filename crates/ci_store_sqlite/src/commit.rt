@@ -2,15 +2,9 @@
 
 ghost use Rattle.std.specs.Prelude.{◌≡◌, ◌≤◌, true, false, Err, OnOk};
 ghost use Rattle.std.specs.List.{list_any};
-ghost use Rattle.sqlite.specs.State.{HasCleanDisk, Survives};
-ghost use Rattle.sqlite_trees.specs.View.{doubt};
-ghost use Rattle.sqlite.specs.Held.{state};
-ghost use Rattle.ci_machine.specs.Kept.{Kept, put_rows, indexed_all, cleared, written};
-ghost use Rattle.ci_machine.specs.State.{applied};
-ghost use Rattle.ci_store_rows.specs.Stands.{LeavesOnly, LeavesEither};
+ghost use Rattle.ci_store.specs.Prelude.{HasCleanDisk, Survives, doubt, state, Kept, put_rows, indexed_all, cleared, written, applied, KeepsInside, CommitsNothing};
+ghost use Rattle.ci_store_rows.specs.Prelude.{LeavesOnly, LeavesEither, in_state, in_board, MakesInside};
 ghost use Rattle.ci_store.specs.declared.fault.StoreFault.TheVariants.{Memory};
-ghost use Rattle.ci_store.specs.Statements.{KeepsInside, CommitsNothing};
-ghost use Rattle.ci_store_rows.specs.Changes.{in_state, in_board, MakesInside};
 ghost use Rattle.ci_store_sqlite.specs.Calls.{Loads};
 ghost use Rattle.ci_store_sqlite.specs.Commit.{CommitsAll, is_done, is_undone, IsBack, IsDone, is_next_job, first_new_job};
 

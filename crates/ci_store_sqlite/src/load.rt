@@ -1,22 +1,12 @@
 //! Loads of records, by a query that writes nothing.
 
 ghost use Rattle.std.specs.Prelude.{◌≡◌, ◌+◌, ◌*◌, [], ◌∷◌, length, take, IfOk};
-ghost use Rattle.sqlite.specs.declared.types.Value.TheVariants.{Text as Words};
-ghost use Rattle.sqlite.specs.Given.{IsPlain};
-ghost use Rattle.sqlite.specs.Listing.{understood};
-ghost use Rattle.sqlite.specs.Values.{bound};
-ghost use Rattle.ci_board.specs.Effects.{status_number};
-ghost use Rattle.ci_machine.specs.Lookups.{last_attempt_by, newest_of, trace_of, next_of};
-ghost use Rattle.ci_machine.specs.Indexes.{newer_in};
-ghost use Rattle.ci_store_rows.specs.Schema.{the_schema};
-ghost use Rattle.ci_store_rows.specs.Found.{ShowsRecords, FindsNumber, listed};
-ghost use Rattle.ci_store_rows.specs.Blocks.{last_block};
+ghost use Rattle.ci_store.specs.Prelude.{Text as Words, IsPlain, understood, bound, last_attempt_by, newest_of, trace_of, next_of, newer_in};
+ghost use Rattle.ci_store_rows.specs.Prelude.{the_schema, ShowsRecords, FindsNumber, listed, last_block, number};
 ghost use Rattle.ci_store_sqlite.specs.Calls.{LooksUp};
 ghost use Rattle.ci_store_sqlite.specs.Appends.{kept_trace};
-ghost use Rattle.ci_store_rows.specs.Rows.{number};
 
 use crate::asked::Asked;
-use ci_board::facts::Status;
 use ci_machine::change::Counter;
 use ci_machine::moment::Moment;
 use ci_machine::records::{Attempt, Pipeline};
@@ -146,22 +136,6 @@ pub(crate) fn list_within<S: Alter, R: Loaded>(
     let first = number(first)?;
     let last = number(last)?;
     list(conn, sql, &[first, last])
-}
-
-/// The records that a query by a status, by the job before the page, and by how many rows a page has shows.
-pub(crate) fn list_after<S: Alter, R: Loaded>(
-    conn: &mut Asked<S>,
-    sql: &str,
-    status: Status,
-    job: u64,
-    count: usize,
-) -> Result<Vec<R>, StoreFault>
-    requires { IsPlain (understood the_schema sql.now) }
-    ensures { LooksUp S.Store conn.old conn.new result (λ _ found. ShowsRecords R.is_row S.Store sql.now (number (status_number status) ∷ number job ∷ number count ∷ []) conn.old conn.new found.items) }
-{
-    let job = number(job)?;
-    let count = number(count as u64)?;
-    list(conn, sql, &[status.as_number().to_sql(), job, count])
 }
 
 /// The records that a query by a moment and by how many it shows at most shows.

@@ -1,15 +1,9 @@
 //! What each change does to the rows.
 
 ghost use Rattle.std.specs.Prelude.{◌≡◌, [], ◌∷◌, map, IsTrue, OnOk};
-ghost use Rattle.sqlite.specs.declared.types.Value.TheVariants.{Text as Words};
-ghost use Rattle.sqlite.specs.State.{HasCleanDisk, Shown};
-ghost use Rattle.sqlite.specs.Values.{bound};
-ghost use Rattle.sqlite.specs.Held.{state};
-ghost use Rattle.ci_machine.specs.State.{with_record, without_record, with_next, changed};
-ghost use Rattle.ci_store.specs.Statements.{KeepsInside, CommitsNothing};
-ghost use Rattle.ci_machine.specs.Kept.{indexed, cleared};
-ghost use Rattle.ci_store_rows.specs.Changes.{in_state, MakesInside, RemovesUnreferred};
-ghost use Rattle.ci_store_rows.specs.Rows.{number};
+ghost use Rattle.ci_store.specs.Prelude.{Text as Words, HasCleanDisk, Shown, bound, state, with_record, without_record, with_next, changed, KeepsInside, CommitsNothing, indexed};
+ghost use Rattle.ci_store.specs.Prelude.{cleared};
+ghost use Rattle.ci_store_rows.specs.Prelude.{in_state, MakesInside, RemovesUnreferred, number};
 
 use crate::append::append;
 use ci_machine::change::{Counter, IndexChange, Key, Record, RowChange};

@@ -1,12 +1,8 @@
 //! Makes a store of version 1 one of version 2.
 
 ghost use Rattle.std.specs.Prelude.{◌≡◌, ◌≢◌, false, codes, IsTrue, IfErr, OnOk};
-ghost use Rattle.sqlite.specs.State.{HasCleanDisk, Survives};
-ghost use Rattle.sqlite.specs.Held.{state};
-ghost use Rattle.sqlite.specs.Tree.{Trees};
-ghost use Rattle.ci_machine.specs.Kept.{Kept};
-ghost use Rattle.ci_store.specs.Statements.{CommitsNothing};
-ghost use Rattle.ci_store_rows.specs.Stands.{Stands, StandsIn, IsAt, LeavesOnly};
+ghost use Rattle.ci_store.specs.Prelude.{HasCleanDisk, Survives, state, Trees, Kept, CommitsNothing};
+ghost use Rattle.ci_store_rows.specs.Prelude.{Stands, StandsIn, IsAt, LeavesOnly};
 ghost use Rattle.ci_store_sqlite.specs.Open.{HasNumber, LacksNumber, LeavesNoMore};
 ghost use Rattle.ci_store_sqlite.specs.Version1.{Stands1, HasTable, LeavesAny};
 

@@ -1,11 +1,8 @@
 //! Opens the tables of a store, also of one of version 1.
 
 ghost use Rattle.std.specs.Prelude.{◌≡◌, ◌≤◌, false, codes, IfOk, IfErr};
-ghost use Rattle.sqlite.specs.State.{HasCleanDisk};
-ghost use Rattle.sqlite.specs.Held.{state};
-ghost use Rattle.sqlite_trees.specs.View.{doubt};
-ghost use Rattle.ci_machine.specs.Kept.{Kept};
-ghost use Rattle.ci_store_rows.specs.Stands.{IsAt, LeavesOnly};
+ghost use Rattle.ci_store.specs.Prelude.{HasCleanDisk, state, doubt, Kept};
+ghost use Rattle.ci_store_rows.specs.Prelude.{IsAt, LeavesOnly};
 ghost use Rattle.ci_store_sqlite.specs.Open.{HasNumber, IsOurs, IsFailure, LeavesNoMore};
 ghost use Rattle.ci_store_sqlite.specs.Version1.{LeavesAny};
 ghost use Rattle.ci_store_sqlite.specs.AnyVersion.{HadVersion, BlamesAny};

@@ -1,11 +1,8 @@
 //! Whether a connection is open still, and holds what a stop leaves.
 
 ghost use Rattle.std.specs.Prelude.{◌≡◌, ◌≤◌, false, OnOk};
-ghost use Rattle.sqlite.specs.State.{HasCleanDisk, Survives, IsUnchanged};
-ghost use Rattle.sqlite_trees.specs.View.{doubt};
-ghost use Rattle.sqlite.specs.Held.{state};
-ghost use Rattle.ci_machine.specs.Kept.{Kept};
-ghost use Rattle.ci_store_rows.specs.Stands.{IsAt, LeavesOnly};
+ghost use Rattle.ci_store.specs.Prelude.{HasCleanDisk, Survives, IsUnchanged, doubt, state, Kept};
+ghost use Rattle.ci_store_rows.specs.Prelude.{IsAt, LeavesOnly};
 
 use ci_store::fault::StoreFault;
 use sqlite::{Alter, Connection};

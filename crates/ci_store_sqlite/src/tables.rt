@@ -1,18 +1,9 @@
 //! The tables, which are the only writer of their store.
 
 ghost use Rattle.std.specs.Prelude.{◌≡◌, ◌≢◌, ◌≤◌, ◌⊎◌, false, IsTrue, IfOk, IfErr, OnOk, MatchBool};
-ghost use Rattle.sqlite.specs.Order.{column};
-ghost use Rattle.sqlite.specs.State.{HasCleanDisk, Survives, IsUnchanged};
-ghost use Rattle.sqlite.specs.Held.{state};
-ghost use Rattle.sqlite.specs.Tree.{Trees};
-ghost use Rattle.sqlite_trees.specs.View.{doubt};
-ghost use Rattle.ci_machine.specs.Kept.{Kept, nothing_kept};
-ghost use Rattle.ci_store.specs.Statements.{CommitsNothing};
-ghost use Rattle.ci_store_rows.specs.Schema.{the_schema};
-ghost use Rattle.ci_store_rows.specs.Create.{IsBlank, IsBare};
-ghost use Rattle.ci_store_rows.specs.Stands.{Stands, StandsIn, IsAt, LeavesOnly};
+ghost use Rattle.ci_store.specs.Prelude.{column, HasCleanDisk, Survives, IsUnchanged, state, Trees, doubt, Kept, nothing_kept, CommitsNothing};
+ghost use Rattle.ci_store_rows.specs.Prelude.{the_schema, IsBlank, IsBare, Stands, StandsIn, IsAt, LeavesOnly, number};
 ghost use Rattle.ci_store_sqlite.specs.Open.{HasNumber, LacksNumber, IsOurs, Blames, IsFailure, LeavesNoMore};
-ghost use Rattle.ci_store_rows.specs.Rows.{number};
 
 use crate::asked::Asked;
 use crate::commit::{commit, first_new_job};
@@ -29,7 +20,7 @@ use ci_machine::text::{Bytes, Text};
 use ci_store::delta::Delta;
 use ci_store::fault::StoreFault;
 use ci_store::read::rows;
-use ci_store::store::{PAGE_ROWS, Store};
+use ci_store::store::Store;
 use ci_store::values::number;
 use ci_store::write::change;
 use ci_store_rows::columns::{state_numbers, text};
@@ -452,16 +443,6 @@ impl<S: Alter> Store for Tables<S> {
             &mut self.conn,
             texts::SELECT_ROWS_WITH,
             u64::from(status.as_number()),
-        )
-    }
-
-    fn pending_after(&mut self, job: u64) -> Result<Vec<BoardRow>, StoreFault> {
-        load::list_after(
-            &mut self.conn,
-            texts::SELECT_ROWS_AFTER,
-            Status::Pending,
-            job,
-            PAGE_ROWS,
         )
     }
 

@@ -1,6 +1,5 @@
 -- Texts of digits and the numbers that they write.
-use Rattle.std.proofs.Common.{◌≡◌, ap, sym, ◌∙◌, refl, true, ◌&&◌, ◌<◌, ◌≤◌, ◌^◌, length}
-use Rattle.std.specs.Prelude.{ℕ, List, [], ◌∷◌}
+use Rattle.std.proofs.Common.{◌≡◌, ap, sym, ◌∙◌, refl, true, ◌&&◌, ◌<◌, ◌≤◌, ◌^◌, length, ℕ, List, [], ◌∷◌}
 use Rattle.std.specs.List.{list_all}
 use Rattle.std.specs.Char.{is_ascii_digit}
 use Rattle.std.specs.Str.{all_ascii_digits}

@@ -1,8 +1,7 @@
 -- The number of a record has one text: its digits in decimal.
 use Rattle.std.proofs.Common.{◌≡◌, ◌≢◌, ◌<◌, ◌≤◌, ◌^◌, ℕ, zero, suc, Bool, true, false, List, [], ◌∷◌, length, get_or, nat_eq, nat_lt, refl, sym, ◌∙◌, ap, subst, arith}
-use Rattle.std.specs.Prelude.{Option, Some, None, unwrap_or, if◌then◌else◌, codes, decimal}
+use Rattle.std.proofs.Common.{Some, None, unwrap_or, if◌then◌else◌, codes, decimal, MatchOption}
 use Rattle.std.specs.List.{list_all, starts_with}
-use Rattle.std.specs.Option.{MatchOption}
 use Rattle.std.specs.Char.{is_ascii_digit}
 use Rattle.std.specs.Str.{all_ascii_digits}
 use Rattle.std.specs.Str.Parse.{digits_value}

@@ -1,6 +1,5 @@
 -- The sum of the pairs, step by step.
-use Rattle.std.proofs.Common.{◌≡◌, ℕ, zero, suc, ◌+◌, ◌<◌, ◌≤◌, true, false, cond, ◌&&◌, List, [], ◌∷◌, length, refl, sym, ◌∙◌, ap, arith, Option, Some, None}
-use Rattle.std.specs.Prelude.{nat_le, ◌≢◌, ◌==◌}
+use Rattle.std.proofs.Common.{◌≡◌, ℕ, zero, suc, ◌+◌, ◌<◌, ◌≤◌, true, false, cond, ◌&&◌, List, [], ◌∷◌, length, refl, sym, ◌∙◌, ap, arith, Option, Some, None, nat_le, ◌≢◌, ◌==◌}
 use Rattle.std.proofs.lemmas.Bool.Decides.{nat_tests}
 use Rattle.ci_values.specs.Run.{front, behind}
 use Rattle.ci_values.specs.Duration.{first_pair, after_pair, plus, tail_by, sum_from, seconds_of, in_range, duration_of}

@@ -1,7 +1,6 @@
 //! Moments: whole seconds since 1970-01-01 in UTC, up to the end of the year 9999.
 
-ghost use Rattle.std.specs.Prelude.{◌≡◌, ◌≤◌, ◌<◌, max};
-ghost use Rattle.std.specs.Option.{SomeIff};
+ghost use Rattle.std.specs.Prelude.{◌≡◌, ◌≤◌, ◌<◌, max, SomeIff};
 
 use crate::limits::MAX_MOMENT;
 use std::marker::Model;

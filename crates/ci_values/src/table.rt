@@ -1,7 +1,6 @@
 //! Words of a table.
 
-ghost use Rattle.std.specs.Prelude.{◌≡◌};
-ghost use Rattle.std.specs.Option.{option_copied};
+ghost use Rattle.std.specs.Prelude.{◌≡◌, option_copied};
 ghost use Rattle.ci_values.specs.Table.{table_view, words_view, meaning_of, word_in};
 
 /// What a word, given by its bytes, means by a table.

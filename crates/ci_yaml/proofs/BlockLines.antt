@@ -1,16 +1,13 @@
 -- The lines of a block, one after the other.
-use Rattle.std.proofs.Common.{◌≡◌, ℕ, zero, suc, ◌+◌, ◌-◌, ◌<◌, ◌≤◌, Bool, true, false, cond, List, [], ◌∷◌, ◌++◌, length, take, drop, get_or, Option, Some, None, refl, sym, ◌∙◌, ap, subst, append_assoc, arith}
+use Rattle.std.proofs.Common.{◌≡◌, ℕ, zero, suc, ◌+◌, ◌-◌, ◌<◌, ◌≤◌, Bool, true, false, cond, List, [], ◌∷◌, ◌++◌, length, take, drop, get_or, Option, Some, None, refl, sym, ◌∙◌}
+use Rattle.std.proofs.Common.{ap, subst, append_assoc, arith, ◌==◌, ◌&&◌, IfOk, Result, Ok, Err}
 use denote.Bor.{Bor}
 use Rattle.std.proofs.lemmas.List.{take_more, append-nil, length-drop, nil_from_length}
 use Rattle.ci_yaml_lines.proofs.Lists.{last-parted, drop-at, push-some}
-use Rattle.ci_yaml_lines.specs.Line.{spaces, Line}
-use Rattle.ci_yaml.specs.Block.{is_spaces, is_in_block, first_indent, more_indent, indent_codes, block_codes, kept_len, without_end, AreBlock}
-use Rattle.ci_yaml.specs.Blocks.{texts_of, cut_text, cut_lines, cut_strip, StopsBlock}
-use Rattle.ci_yaml_lines.specs.declared.code.Code.{Code}
-use Rattle.ci_yaml_lines.specs.Least.{least}
+use Rattle.ci_yaml.specs.Prelude.{spaces, Line, is_spaces, is_in_block, first_indent, more_indent, indent_codes, block_codes, kept_len, without_end, AreBlock, texts_of, cut_text}
+use Rattle.ci_yaml.specs.Prelude.{cut_lines, cut_strip, least}
 use Rattle.ci_yaml_lines.proofs.Leasts.{no_least}
 use Rattle.ci_yaml_lines.proofs.Bools.{eq-false}
-use Rattle.std.specs.Prelude.{◌==◌, ◌&&◌, IfOk, Result, Ok, Err}
 
 texts-push : (xs : List (Bor (List ℕ))) (x : Bor (List ℕ)) → texts_of (xs ++ x ∷ []) ≡ texts_of xs ++ x.now ∷ []
 texts-push [] x = refl
@@ -126,11 +123,6 @@ pub block-more : (c : ℕ) (xs : List (Bor (List ℕ))) (i : ℕ) (d : Bor (List
 block-more c xs i d l o lt is o-is are inside_it clean =
     subst (AreBlock c []) (sym (texts-more xs i d l lt is))
     (are-push c [] (texts_of (take i xs)) l are inside_it (no_least (block_codes (texts_of (take i xs)) l) (ap (λ x. least (indent_codes x l)) (sym o-is) ∙ clean)))
-
-pub block-stops : (c : ℕ) (xs : List (Bor (List ℕ))) (i : ℕ) (d : Bor (List ℕ)) (l : Line) (o : Option ℕ) (code : Code) → i < length xs → l ≡ (get_or xs i d).now → o ≡ first_indent (texts_of (take i xs))
-    → is_in_block c l ≡ true → least (indent_codes o l) ≡ Some code → StopsBlock c (texts_of (take i xs)) (texts_of (drop i xs)) code
-block-stops c xs i d l o code lt is o-is inside_it e =
-    subst (λ (ls : List Line). StopsBlock c (texts_of (take i xs)) ls code) (sym (texts-next xs i d l lt is)) (inside_it, ap (λ x. least (indent_codes x l)) (sym o-is) ∙ e)
 
 pub ok-map : {X E : Type 0} (r : Result X E) (P Q : Type 0) → (P → Q) → IfOk r (λ x. P) → IfOk r (λ x. Q)
 ok-map (Ok x) P Q f h = f h

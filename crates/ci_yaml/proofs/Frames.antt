@@ -1,9 +1,8 @@
 -- The open nodes as the code has them, the last the innermost.
-use Rattle.std.proofs.Common.{◌≡◌, ℕ, true, false, cond, ◌∙◌, ◌-◌, ◌≤◌, length, take, get_or, List, [], ◌∷◌, ◌++◌, refl, ap, sym}
+use Rattle.std.proofs.Common.{◌≡◌, ℕ, true, cond, ◌∙◌, ◌-◌, ◌≤◌, length, take, get_or, List, [], ◌∷◌, ◌++◌, refl, ap, sym}
 use Rattle.ci_yaml_lines.proofs.Lists.{last-parted}
-use Rattle.ci_yaml_lines.specs.Tree.{Value}
+use Rattle.ci_yaml.specs.Prelude.{Value, frame_view, frames_onto, frames_view}
 use Rattle.ci_yaml.specs.Reading as reading
-use Rattle.ci_yaml.specs.View.{frame_view, frames_onto, frames_view}
 use Rattle.ci_yaml.specs.declared.progress.Frame.{Frame}
 
 frames-onto-push : (fs : List Frame) (f : Frame) (gs : List reading.Frame) → frames_onto (fs ++ f ∷ []) gs ≡ frame_view f ∷ frames_onto fs gs
@@ -26,13 +25,6 @@ pub settle-closes : (l : ℕ) (old init : List Frame) (f : Frame) (v w : Value) 
 settle-closes l old init f v w parts deep is =
     let e : frames_view old ≡ frame_view f ∷ frames_view init = ap frames_view parts ∙ frames-push init f in
     closes_one l (frame_view f) (frames_view init) v w (ap (reading.top_deeper l) (sym e) ∙ deep) is ∙ ap (λ fs. reading.settle l fs v) (sym e)
-
-stays_by : (l : ℕ) (fs : List reading.Frame) (v : Value) → reading.top_deeper l fs ≡ false → reading.settle l fs v ≡ record { frames = fs; value = v }
-stays_by l [] v e = refl
-stays_by l (f ∷ fs) v e = ap (λ b. cond b (reading.settle l fs (reading.closed f v)) (record { frames = f ∷ fs; value = v })) e
-
-pub settle-stays : (l : ℕ) (fs : List Frame) (v : Value) → reading.top_deeper l (frames_view fs) ≡ false → reading.settle l (frames_view fs) v ≡ record { frames = frames_view fs; value = v }
-settle-stays l fs v e = stays_by l (frames_view fs) v e
 
 pub closes-next : (old init : List Frame) (f : Frame) (v w : Value) → old ≡ init ++ f ∷ [] → w ≡ reading.closed (frame_view f) v → reading.close_all (frames_view init) w ≡ reading.close_all (frames_view old) v
 closes-next old init f v w parts is =

@@ -1,12 +1,9 @@
 -- Before its block a header's entry holds an empty text.
 use Rattle.std.proofs.Common.{◌≡◌, ℕ, List, [], ◌∷◌, Option, Some, None, refl, sym, ◌∙◌, ap}
 use Rattle.std.specs.Prelude.{⊤}
-use Rattle.ci_yaml_lines.specs.declared.code.Code.{Code}
-use Rattle.ci_yaml_lines.specs.Tree.{Value, text}
-use Rattle.ci_yaml_lines.specs.Entry.{Head, dash, key, bare, Entry}
-use Rattle.ci_yaml_lines.specs.Line.{Chomp, clip, strip, keep, Written, written_at, written, ParsedLine, entry_of, header_code, parse_line, Line}
-use Rattle.ci_yaml.specs.Block.{literal}
-use Rattle.ci_yaml.specs.Document.{filled, entries_with}
+use Rattle.ci_yaml.specs.Prelude.{Code, Value, text, Head, dash, key, bare, Entry, clip, strip, keep, Written, written_at, written, ParsedLine, entry_of, header_code, parse_line}
+use Rattle.ci_yaml.specs.Prelude.{Line, literal, filled, entries_with}
+use Rattle.ci_yaml_lines.specs.Prelude.{Chomp}
 use Rattle.ci_yaml_lines.proofs.Forms.{OfForms, OfLines, written_at-each, written-each, line-each}
 
 -- the value beside a header is an empty text

@@ -1,15 +1,10 @@
 -- The keys of an open map, beside its pairs.
-use Rattle.std.proofs.Common.{◌≡◌, ℕ, Bool, true, false, cond, List, [], ◌∷◌, ◌++◌, refl, sym, ◌∙◌, ap}
-use Rattle.std.specs.Prelude.{◌||◌, String, string_bytes, string_cmp}
+use Rattle.std.proofs.Common.{◌≡◌, ℕ, Bool, true, false, cond, List, [], ◌∷◌, ◌++◌, refl, sym, ◌∙◌, ap, ◌||◌, String, string_bytes, string_cmp}
 use Rattle.std.specs.BTreeSet.{BTreeSet, UpdatesBy, contains_text}
 use Rattle.std.specs.Str.{bytes_eq}
 use Rattle.std.proofs.lemmas.Map.Text.{btree_set_updates_text}
 use Rattle.std.proofs.lemmas.Slice.Eq.{bytes_eq-Decides}
-use Rattle.ci_yaml_lines.specs.declared.tree.Text.{Text}
-use Rattle.ci_yaml_lines.specs.declared.tree.Tree.{Tree}
-use Rattle.ci_yaml_lines.specs.Tree.{Value, Members, no_members, member, push}
-use Rattle.ci_yaml.specs.Reading.{same_text, has_name}
-use Rattle.ci_yaml_lines.specs.TreeView.{bytes_of, value_view, pairs_view}
+use Rattle.ci_yaml.specs.Prelude.{Text, Tree, Value, Members, no_members, member, push, same_text, has_name, bytes_of, value_view, pairs_view}
 use Rattle.ci_yaml_lines.proofs.Views.{pairs-push}
 
 pub has-push : (k : List ℕ) (ms : Members) (name : List ℕ) (v : Value) → has_name k (push ms name v) ≡ (has_name k ms || same_text k name)

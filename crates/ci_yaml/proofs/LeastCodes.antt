@@ -1,15 +1,13 @@
 -- The code that reading stops with at a line is the least of those that hold of it.
-use Rattle.std.proofs.Common.{◌≡◌, ℕ, zero, suc, ◌<◌, ◌≤◌, ◌⊎◌, inl, inr, Bool, true, false, cond, List, [], ◌∷◌, ◌++◌, length, Option, Some, None, Result, Ok, Err, refl, sym, ◌∙◌, ap, subst, arith}
-use Rattle.std.specs.Prelude.{nat_le, slice_index_or, Contains}
+use Rattle.std.proofs.Common.{◌≡◌, ℕ, zero, suc, ◌<◌, ◌≤◌, ◌⊎◌, inl, inr, Bool, true, false, cond, List, [], ◌∷◌, ◌++◌, length, Option, Some, None, Result, Ok, Err, refl, sym, ◌∙◌}
+use Rattle.std.proofs.Common.{ap, subst, arith, nat_le, slice_index_or, Contains}
 use Rattle.std.proofs.lemmas.Bool.{leb-true, leb-false}
-use Rattle.ci_yaml_lines.specs.declared.code.Code.{Code}
-use Rattle.ci_yaml_lines.specs.Entry.{bare, Entry}
-use Rattle.ci_yaml_lines.specs.Line.{Chomp, Written, ParsedLine, parse_line, Line}
-use Rattle.ci_yaml.specs.Reading.{State, run}
-use Rattle.ci_yaml_lines.specs.Least.{number_of, lesser, least, least_of}
-use Rattle.ci_yaml.specs.Block.{is_in_block, block_codes, literal, AreBlock, EndsBlock}
-use Rattle.ci_yaml.specs.Document.{Ending, outside, within, ending_of, IsOutside, filled, last_column, Parses, none, line, block, place_codes, Holds, of_block, of_line, of_place, IsLeast}
-use Rattle.ci_yaml.specs.ReadLines.{Reader, with_text, stop_or, content_by, content, line_by, line_next}
+use Rattle.ci_yaml.specs.Prelude.{Code, bare, Entry, Written, ParsedLine, parse_line, Line, State, run, lesser, least, least_of, is_in_block, block_codes, literal, AreBlock}
+use Rattle.ci_yaml.specs.Prelude.{EndsBlock, Ending, outside, within, ending_of, IsOutside, filled, last_column, Parses, none, place_codes, Holds, of_block, of_place, IsLeast}
+use Rattle.ci_yaml.specs.Prelude.{Reader, with_text, stop_or, content_by, content, line_by, line_next}
+use Rattle.ci_yaml_lines.specs.Prelude.{Chomp}
+use Rattle.ci_yaml_lines.specs.Least.{number_of}
+use Rattle.ci_yaml.specs.Document.{line, block, of_line}
 use Rattle.ci_yaml.proofs.Sound.{StateStands}
 use Rattle.ci_yaml_lines.proofs.Leasts.{no_least, least_append}
 use Rattle.ci_yaml.proofs.LinesSound.{LinesStand}

@@ -1,20 +1,14 @@
 -- Lines that say entries with a tree are read.
-use Rattle.std.proofs.Common.{◌≡◌, ℕ, Bool, true, false, cond, List, [], ◌∷◌, ◌++◌, length, Some, Result, Ok, Err, refl, sym, ◌∙◌, ap, subst, append_assoc}
-use Rattle.std.specs.Prelude.{◌==◌, nat_lt}
+use Rattle.std.proofs.Common.{◌≡◌, ℕ, Bool, true, false, cond, List, [], ◌∷◌, ◌++◌, length, Some, Result, Ok, Err, refl, sym, ◌∙◌, ap, subst, append_assoc, ◌==◌, nat_lt}
 use Rattle.std.proofs.lemmas.List.{append-nil}
-use Rattle.ci_yaml_lines.specs.declared.code.Code.{Code}
-use Rattle.ci_yaml_lines.specs.declared.code.Code.TheVariants.{Y3, Y5, Y10}
-use Rattle.ci_yaml_lines.specs.Tree.{Kind, sequence, mapping, Value, text, no_members, push}
-use Rattle.ci_yaml_lines.specs.Entry.{Head, dash, key, bare, Entry, level_of}
-use Rattle.ci_yaml_lines.specs.Line.{Chomp, parse_line, Line}
-use Rattle.ci_yaml.specs.Reading.{◌>>=◌, Frame, level, State, start, whole, inside, settle, value_of, misplaced, begun, is_repeated, joined, begins, member_next, bare_next, next_by, next, run}
-use Rattle.ci_yaml.specs.Block.{block_codes, literal, AreBlock, EndsBlock}
-use Rattle.ci_yaml.specs.Document.{Ending, outside, within, ending_of, IsOutside, filled, entries_with, last_column, Parses, none, line, block}
-use Rattle.ci_yaml_lines.specs.Least.{least}
-use Rattle.ci_yaml.specs.ReadLines.{Reader, with_text, stop_or, ending_at, content_by, content, line_by, line_next, read_lines}
+use Rattle.ci_yaml.specs.Prelude.{Code, Y3, Y5, Y10, Kind, sequence, mapping, Value, text, no_members, push, Head, dash, key, bare, Entry, level_of, parse_line, Line, ◌>>=◌, level}
+use Rattle.ci_yaml.specs.Prelude.{State, start, whole, inside, settle, value_of, misplaced, begun, is_repeated, joined, begins, member_next, bare_next, next_by, next, run}
+use Rattle.ci_yaml.specs.Prelude.{block_codes, literal, AreBlock, EndsBlock, Ending, outside, within, ending_of, IsOutside, filled, entries_with, last_column, Parses, none, least}
+use Rattle.ci_yaml.specs.Prelude.{Reader, with_text, stop_or, ending_at, content_by, content, line_by, line_next, read_lines, StartsOutside, MAX_DEPTH}
+use Rattle.ci_yaml_lines.specs.Prelude.{Chomp}
+use Rattle.ci_yaml.specs.Reading.{Frame}
+use Rattle.ci_yaml.specs.Document.{line, block}
 use Rattle.ci_yaml.proofs.LinesSound.{parsed_entries, parsed_end, NotEmpty, header-fits}
-use Rattle.ci_yaml.specs.Stops.{StartsOutside}
-use Rattle.ci_yaml.specs.declared.limits.TheConstants.{MAX_DEPTH}
 
 abbrev pub mapped : List ℕ → Result State Code → Result State Code
 mapped u (Ok s) = Ok (with_text u s)

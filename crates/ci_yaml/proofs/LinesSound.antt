@@ -2,15 +2,12 @@
 use Rattle.std.proofs.Common.{◌≡◌, ℕ, Bool, true, false, cond, List, [], ◌∷◌, ◌++◌, Option, Some, None, Result, Ok, Err, refl, sym, ◌∙◌, ap, subst, append_assoc}
 use Rattle.std.specs.Prelude.{⊤}
 use Rattle.std.proofs.lemmas.List.{append-nil}
-use Rattle.ci_yaml_lines.specs.declared.code.Code.{Code}
-use Rattle.ci_yaml_lines.specs.Tree.{Value, text}
-use Rattle.ci_yaml_lines.specs.Entry.{Entry}
-use Rattle.ci_yaml_lines.specs.Line.{Chomp, ParsedLine, parse_line, Line}
-use Rattle.ci_yaml.specs.Reading.{◌>>=◌, Frame, State, start, whole, inside, run}
-use Rattle.ci_yaml.specs.Block.{is_in_block, block_codes, literal}
-use Rattle.ci_yaml.specs.Document.{Ending, outside, within, IsOutside, filled, entries_with, last_column, Parses, none, line, block}
-use Rattle.ci_yaml_lines.specs.Least.{least}
-use Rattle.ci_yaml.specs.ReadLines.{Reader, with_text, stop_or, ending_at, content_by, content, line_by, line_next, read_lines}
+use Rattle.ci_yaml.specs.Prelude.{Code, Value, text, Entry, ParsedLine, parse_line, Line, ◌>>=◌, State, start, whole, inside, run, is_in_block, block_codes, literal, Ending}
+use Rattle.ci_yaml.specs.Prelude.{outside, within, IsOutside, filled, entries_with, last_column, Parses, none, least, Reader, with_text, stop_or, ending_at, content_by, content}
+use Rattle.ci_yaml.specs.Prelude.{line_by, line_next, read_lines}
+use Rattle.ci_yaml_lines.specs.Prelude.{Chomp}
+use Rattle.ci_yaml.specs.Reading.{Frame}
+use Rattle.ci_yaml.specs.Document.{line, block}
 use Rattle.ci_yaml.proofs.Sound.{Stands, StateStands, run-stands}
 use Rattle.ci_yaml_lines.proofs.Leasts.{no_least}
 use Rattle.ci_yaml_lines.proofs.Forms.{OfLines, line-each}

@@ -1,15 +1,12 @@
 -- The text of a block whose lines fit it.
 use Rattle.std.proofs.Common.{◌≡◌, ℕ, zero, suc, ◌≤◌, Bool, true, false, cond, List, [], ◌∷◌, ◌++◌, take, drop, Option, Some, None, refl, sym, ◌∙◌, ap, subst, append_assoc, arith}
-use Rattle.std.specs.Prelude.{⊤, min, not, nat_lt, ◌&&◌, unwrap_or}
+use Rattle.std.proofs.Common.{min, not, nat_lt, ◌&&◌, unwrap_or}
+use Rattle.std.specs.Prelude.{⊤}
 use Rattle.std.proofs.Math.Nat.{min-eq_right}
 use Rattle.std.proofs.lemmas.List.{append-nil}
 use Rattle.std.proofs.lemmas.Bool.{ltb-false}
-use Rattle.ci_yaml_lines.specs.declared.code.Code.{Code}
-use Rattle.ci_yaml_lines.specs.declared.code.Code.TheVariants.{Y3, Y9}
-use Rattle.ci_yaml_lines.specs.Scalar.{when}
-use Rattle.ci_yaml_lines.specs.Line.{clip, strip, keep, spaces, has_byte_order_mark, Line}
-use Rattle.ci_yaml.specs.Block.{is_spaces, first_indent, block_indent, line_text, block_lines, kept_len, without_end, without_last, literal, is_low, indent_codes, AreBlock}
-use Rattle.ci_yaml.specs.Blocks.{cut_text, cut_lines, cut_strip}
+use Rattle.ci_yaml.specs.Prelude.{Code, Y3, Y9, when, clip, strip, keep, spaces, has_byte_order_mark, Line, is_spaces, first_indent, block_indent, line_text, block_lines, kept_len}
+use Rattle.ci_yaml.specs.Prelude.{without_end, without_last, literal, is_low, indent_codes, AreBlock, cut_text, cut_lines, cut_strip}
 
 -- each of the lines that isn't all spaces has n spaces at least
 abbrev pub AreHigh : ℕ → List Line → Type 0

@@ -1,16 +1,13 @@
 -- A step stops with the least of the codes that hold of its entry's place, and goes on where none does.
 use Rattle.std.proofs.Common.{◌≡◌, ℕ, suc, ◌<◌, Bool, true, false, cond, List, [], ◌∷◌, ◌++◌, length, Option, Some, None, Result, Ok, Err, refl, sym, ◌∙◌, ap, arith, inl, inr}
-use Rattle.std.specs.Prelude.{⊤, nat_lt, nat_le, ◌==◌, ◌&&◌, ◌||◌}
+use Rattle.std.proofs.Common.{nat_lt, nat_le, ◌==◌, ◌&&◌, ◌||◌}
+use Rattle.std.specs.Prelude.{⊤}
 use Rattle.std.proofs.lemmas.Bool.{lt-ltb, le-ltb, le-leb, cases_lt}
-use Rattle.ci_yaml_lines.specs.declared.code.Code.{Code}
-use Rattle.ci_yaml_lines.specs.declared.code.Code.TheVariants.{Y3, Y4, Y5, Y10}
-use Rattle.ci_yaml_lines.specs.Tree.{Kind, sequence, mapping, Value, Members, no_members, push}
-use Rattle.ci_yaml_lines.specs.Entry.{Head, dash, key, bare, Entry, head_of, level_of}
-use Rattle.ci_yaml.specs.Reading.{◌>>=◌, Frame, level, State, start, whole, inside, closed, Settled, settle, value_of, same_text, has_name, misplaced, is_node, with_given, begun, is_repeated, joined, begins, entered, member_next, whole_of, bare_next, next_by, next, run}
-use Rattle.ci_yaml_lines.specs.Scalar.{when}
-use Rattle.ci_yaml_lines.specs.Least.{least}
-use Rattle.ci_yaml.specs.Codes.{level_open, column_open, awaited, is_empty, member_fits, fits_by, is_named, opens_above, too_deep, repeats_by, deep_by, place_code}
-use Rattle.ci_yaml.specs.Document.{codes_at, or_else, place_codes}
+use Rattle.ci_yaml.specs.Prelude.{Code, Y3, Y4, Y5, Y10, Kind, sequence, mapping, Value, Members, no_members, push, Head, dash, key, bare, Entry, head_of, level_of, ◌>>=◌, level}
+use Rattle.ci_yaml.specs.Prelude.{State, start, whole, inside, closed, Settled, settle, value_of, same_text, has_name, misplaced, is_node, with_given, begun, is_repeated, joined}
+use Rattle.ci_yaml.specs.Prelude.{begins, member_next, whole_of, bare_next, next_by, next, run, when, least, level_open, column_open, awaited, is_empty, member_fits, fits_by}
+use Rattle.ci_yaml.specs.Prelude.{is_named, opens_above, too_deep, repeats_by, deep_by, place_code, codes_at, or_else, place_codes, MAX_DEPTH}
+use Rattle.ci_yaml.specs.Reading.{Frame, entered}
 use Rattle.ci_yaml.proofs.Sound.{Stands, StateStands, begins-none, next-stands}
 use Rattle.ci_yaml.proofs.Complete.{settle-closes, settle-stays}
 use Rattle.ci_yaml.proofs.Opened.{has_level, AllBelow, none-below, below-more, stands-below, open-is}
@@ -18,7 +15,6 @@ use Rattle.ci_yaml_lines.proofs.Bools.{eq-false, eq-true, le-false, or_false, ca
 use Rattle.ci_yaml.proofs.Faults.{misplaced-is, awaited-is, entered-not, stands-ascend}
 use Rattle.ci_yaml.proofs.Keys.{has-push}
 use Rattle.ci_yaml.proofs.Places.{named_at, none-named_below, named-is, levels_above, above-is, no-levels, above-inner, above-all}
-use Rattle.ci_yaml.specs.declared.limits.TheConstants.{MAX_DEPTH}
 use Rattle.ci_yaml_lines.proofs.Forms.{EachEntry}
 
 abbrev pub fault_of : {X : Type 0} → Result X Code → Option Code

@@ -1,12 +1,10 @@
 -- Which keys and how many nodes are open by the entries read, and by the nodes that the code keeps open.
-use Rattle.std.proofs.Common.{◌≡◌, ℕ, zero, suc, ◌<◌, ◌≤◌, Bool, true, false, cond, List, [], ◌∷◌, ◌++◌, length, Option, None, refl, sym, ◌∙◌, ap, subst, arith, inl, inr}
-use Rattle.std.specs.Prelude.{◌==◌, ◌&&◌, ◌||◌}
+use Rattle.std.proofs.Common.{◌≡◌, ℕ, zero, suc, ◌<◌, ◌≤◌, Bool, true, false, cond, List, [], ◌∷◌, ◌++◌, length, Option, None, refl, sym, ◌∙◌, ap, subst, arith, inl, inr, ◌==◌}
+use Rattle.std.proofs.Common.{◌&&◌, ◌||◌}
 use Rattle.std.proofs.lemmas.Bool.{cases_lt, le-leb}
-use Rattle.ci_yaml_lines.specs.Tree.{Kind, sequence, mapping, Value, Members, no_members, member}
-use Rattle.ci_yaml_lines.specs.Entry.{Head, dash, key, bare, Entry, head_of, level_of}
-use Rattle.ci_yaml.specs.Node.{IsWithin, HasValue, here, deeper, nothing, IsNode, AreMembers}
-use Rattle.ci_yaml.specs.Reading.{Frame, level, same_text, has_name}
-use Rattle.ci_yaml.specs.Codes.{keeps_by, all_keep, names_by, is_named, opens_above}
+use Rattle.ci_yaml.specs.Prelude.{Kind, sequence, mapping, Value, Members, no_members, member, Head, dash, key, bare, Entry, head_of, level_of, IsWithin, HasValue, here, deeper}
+use Rattle.ci_yaml.specs.Prelude.{nothing, IsNode, AreMembers, level, same_text, has_name, keeps_by, all_keep, names_by, is_named, opens_above}
+use Rattle.ci_yaml.specs.Reading.{Frame}
 use Rattle.ci_yaml.proofs.Sound.{Stands}
 use Rattle.ci_yaml.proofs.Opened.{IsFrom, AllFrom, node-from, members-from, keep-append, all-keep-from, last-stands, shuffle, has_level, AllBelow, none-below, below-more, stands-below, open-is}
 use Rattle.ci_yaml_lines.proofs.Bools.{eq-false, eq-true, or_false, and_true, le-false, cases_order}

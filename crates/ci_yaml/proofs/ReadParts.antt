@@ -1,19 +1,9 @@
 -- The same of lines as the code holds them.
 use Rattle.std.proofs.Common.{◌≡◌, ℕ, zero, suc, ◌+◌, ◌<◌, ◌≤◌, List, [], ◌∷◌, length, take, drop, get_or, Option, Some, None, Result, Ok, refl, sym, ◌∙◌, ap, subst, arith}
 use denote.Bor.{Bor}
-use Rattle.ci_values.specs.declared.limits.TheConstants.{MAX_FILE_BYTES}
-use Rattle.ci_yaml_lines.specs.declared.code.Code.{Code}
-use Rattle.ci_yaml.specs.declared.fault.YamlFault.{YamlFault}
-use Rattle.ci_yaml.specs.declared.fault.YamlFault.TheVariants as faults
+use Rattle.ci_yaml.specs.Prelude.{MAX_FILE_BYTES, Code, YamlFault, chomp_view, parse_line, Line, State, literal, AreBlock, EndsBlock, within, texts_of, StopsBlock, Reader}
+use Rattle.ci_yaml.specs.Prelude.{with_text, content, read_lines, beginning, below_view, FailsAt, BlockFails, StopsAt, StopsBy, HasRead, AreShort}
 use Rattle.ci_yaml_lines.specs.declared.entry.Chomp.{Chomp}
-use Rattle.ci_yaml_lines.specs.View.{chomp_view}
-use Rattle.ci_yaml_lines.specs.Line.{parse_line, Line}
-use Rattle.ci_yaml.specs.Reading.{State}
-use Rattle.ci_yaml.specs.Block.{literal, AreBlock, EndsBlock}
-use Rattle.ci_yaml.specs.Document.{within}
-use Rattle.ci_yaml.specs.Blocks.{texts_of, StopsBlock}
-use Rattle.ci_yaml.specs.ReadLines.{Reader, with_text, content, read_lines, beginning}
-use Rattle.ci_yaml.specs.Stops.{below_view, FailsAt, BlockFails, StopsAt, StopsBy, HasRead, AreShort}
 use Rattle.ci_yaml.proofs.BlockLines.{texts-next, texts-take, length-texts}
 use Rattle.ci_yaml.proofs.ReadSteps.{line-more, line-stops, block-more, block-stops, all-read}
 
@@ -47,8 +37,8 @@ part-more xs at d st s b lt h e is =
 
 pub part-fails : (xs : List (Bor (List ℕ))) (at : ℕ) (d : Bor (List ℕ)) (st : State) (e : YamlFault) → at < length xs → HasRead (texts_of xs) at st
     → FailsAt (at + 1) e (content st (parse_line (get_or xs at d).now)) → StopsBy (texts_of xs) e
-part-fails xs at d st faults.Memory lt h f = tt
-part-fails xs at d st (faults.Fault code n) lt h f =
+part-fails xs at d st YamlFault.Memory lt h f = tt
+part-fails xs at d st (YamlFault.Fault code n) lt h f =
     subst (λ m. StopsAt (texts_of xs) m code) (one at ∙ sym f.1) (line-stops (texts_of xs) (texts_of (drop (at + 1) xs)) at (get_or xs at d).now st code h (part-at xs at d lt) f.0)
 
 below-is : (s : State) (b : Option (Chomp × ℕ)) (how : Chomp) (c : ℕ) (x : Result Reader Code) → x ≡ Ok (record { state = s; end = below_view b }) → b ≡ Some (how, c) → x ≡ Ok (record { state = s; end = within (chomp_view how) c [] })
@@ -72,10 +62,10 @@ part-block xs ys at k d st s t b how c bytes lt h e is ys-is are' ends' bytes-is
 pub part-block_fails : (xs ys : List (Bor (List ℕ))) (at : ℕ) (d : Bor (List ℕ)) (st s : State) (b : Option (Chomp × ℕ)) (how : Chomp) (c : ℕ) (f : YamlFault) → at < length xs → HasRead (texts_of xs) at st
     → content st (parse_line (get_or xs at d).now) ≡ Ok (record { state = s; end = below_view b }) → b ≡ Some (how, c) → ys ≡ drop (at + 1) xs
     → BlockFails c (at + 1) ys f → StopsBy (texts_of xs) f
-part-block_fails xs ys at d st s b how c faults.Memory lt h e is ys-is fails = tt
-part-block_fails xs ys at d st s b how c (faults.Fault code n) lt h e is ys-is fails' =
+part-block_fails xs ys at d st s b how c YamlFault.Memory lt h e is ys-is fails = tt
+part-block_fails xs ys at d st s b how c (YamlFault.Fault code n) lt h e is ys-is fails' =
     let rest : List (Bor (List ℕ)) = drop (at + 1) xs in
-    let fails : BlockFails c (at + 1) rest (faults.Fault code n) = subst (λ (y : List (Bor (List ℕ))). BlockFails c (at + 1) y (faults.Fault code n)) ys-is fails' in
+    let fails : BlockFails c (at + 1) rest (YamlFault.Fault code n) = subst (λ (y : List (Bor (List ℕ))). BlockFails c (at + 1) y (YamlFault.Fault code n)) ys-is fails' in
     let k : ℕ = fails.0 in
     let number : suc (suc at + k) ≡ n = three at k n fails.1 in
     subst (λ m. StopsAt (texts_of xs) m code) number

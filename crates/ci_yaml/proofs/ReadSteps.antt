@@ -2,18 +2,12 @@
 use Rattle.std.proofs.Common.{◌≡◌, ℕ, zero, suc, ◌+◌, ◌-◌, ◌≤◌, List, [], ◌∷◌, ◌++◌, map, length, take, drop, get_or, Option, Some, None, Result, Ok, Err, refl, sym, ◌∙◌, ap, subst, cond}
 use Rattle.std.proofs.lemmas.List.{take-append-drop, drop-drop, append-nil}
 use Rattle.std.proofs.Math.Seq.{take-add}
-use Rattle.ci_yaml_lines.specs.declared.code.Code.{Code}
+use Rattle.ci_yaml.specs.Prelude.{Code, Entry, entry_view, LeastParsed, least_parsed, least, ParsedLine, parse_line, Line, ◌>>=◌, State, start, run, block_codes, literal, AreBlock}
+use Rattle.ci_yaml.specs.Prelude.{EndsBlock, Ending, outside, within, filled, entries_with, last_column, Reader, with_text, stop_or, ending_at, content_by, content, line_by}
+use Rattle.ci_yaml.specs.Prelude.{line_next, read_lines, beginning, StopsBlock, entered_by, StopsAt, StartsOutside, HasRead}
 use Rattle.ci_yaml_lines.specs.declared.entry.Entry as parts
-use Rattle.ci_yaml_lines.specs.Entry.{Entry}
-use Rattle.ci_yaml_lines.specs.View.{entry_view, LeastParsed, least_parsed}
-use Rattle.ci_yaml_lines.specs.Least.{least}
-use Rattle.ci_yaml_lines.specs.Line.{Chomp, ParsedLine, parse_line, Line}
-use Rattle.ci_yaml.specs.Reading.{◌>>=◌, State, start, run}
-use Rattle.ci_yaml.specs.Block.{block_codes, literal, AreBlock, EndsBlock}
-use Rattle.ci_yaml.specs.Document.{Ending, outside, within, filled, entries_with, last_column}
-use Rattle.ci_yaml.specs.ReadLines.{Reader, with_text, stop_or, ending_at, content_by, content, line_by, line_next, read_lines, beginning}
-use Rattle.ci_yaml.specs.Blocks.{StopsBlock}
-use Rattle.ci_yaml.specs.Stops.{entered_by, entered, StopsAt, StartsOutside, HasRead}
+use Rattle.ci_yaml_lines.specs.Prelude.{Chomp}
+use Rattle.ci_yaml.specs.Stops.{entered}
 use Rattle.ci_yaml.proofs.Headers.{entries-same}
 use Rattle.ci_yaml.proofs.LinesSound.{stop-ok, header-fits, read-by}
 use Rattle.ci_yaml.proofs.LinesComplete.{starts-anywhere, starts-from, outside-next, block-read, run-filled, same-mapped}

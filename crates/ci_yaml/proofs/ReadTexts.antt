@@ -1,25 +1,13 @@
 -- What reading the lines of a text says of the text.
-use Rattle.std.proofs.Common.{◌≡◌, ℕ, zero, suc, ◌-◌, ◌≤◌, ◌⊎◌, inl, inr, Bool, true, false, cond, List, [], ◌∷◌, ◌++◌, map, length, take, Some, None, Result, Ok, Err, refl, sym, ◌∙◌, ap, subst, arith}
-use Rattle.std.specs.Prelude.{⊤, ◌==◌, IfOk, IfErr, slice_index}
+use Rattle.std.proofs.Common.{◌≡◌, ℕ, zero, suc, ◌-◌, ◌≤◌, ◌⊎◌, inl, inr, Bool, true, false, cond, List, [], ◌∷◌, ◌++◌, map, length, take, Some, None, Result, Ok, Err, refl, sym}
+use Rattle.std.proofs.Common.{◌∙◌, ap, subst, arith, ◌==◌, IfOk, IfErr, slice_index}
+use Rattle.std.specs.Prelude.{⊤}
 use Rattle.std.specs.List.{slice_split, onto_first}
 use Rattle.std.specs.Str.Lines.{lines, lines_of_parts}
 use Rattle.std.proofs.lemmas.List.{take-append-drop}
 use denote.Bor.{Bor}
-use Rattle.ci_values.specs.declared.limits.TheConstants.{MAX_FILE_BYTES}
-use Rattle.ci_yaml_lines.specs.declared.code.Code.{Code}
-use Rattle.ci_yaml_lines.specs.declared.code.Code.TheVariants.{Y12}
-use Rattle.ci_yaml.specs.declared.fault.YamlFault.{YamlFault}
-use Rattle.ci_yaml.specs.declared.fault.YamlFault.TheVariants as faults
-use Rattle.ci_yaml_lines.specs.declared.tree.Tree.{Tree}
-use Rattle.ci_yaml_lines.specs.View.{value_view}
-use Rattle.ci_yaml_lines.specs.Tree.{Value}
-use Rattle.ci_yaml_lines.specs.Entry.{Entry}
-use Rattle.ci_yaml.specs.Reading.{◌>>=◌, State, start, whole, inside, finished}
-use Rattle.ci_yaml_lines.specs.Line.{Line}
-use Rattle.ci_yaml.specs.Document.{Parses, none, HasTree, IsGood, IsFault, at_line, no_content}
-use Rattle.ci_yaml.specs.Blocks.{texts_of}
-use Rattle.ci_yaml.specs.ReadLines.{Reader, line_next, read_lines, beginning}
-use Rattle.ci_yaml.specs.Stops.{StopsAt, AreShort, Reads, RefusedBy, GivesTree}
+use Rattle.ci_yaml.specs.Prelude.{MAX_FILE_BYTES, Code, Y12, YamlFault, Tree, value_view, Value, Entry, ◌>>=◌, State, start, whole, inside, finished, Line, Parses, none, HasTree}
+use Rattle.ci_yaml.specs.Prelude.{IsGood, IsFault, at_line, no_content, texts_of, Reader, line_next, read_lines, beginning, StopsAt, AreShort, Reads, RefusedBy, GivesTree}
 use Rattle.ci_yaml.proofs.Sound.{StateStands}
 use Rattle.ci_yaml.proofs.LinesSound.{read-stands}
 use Rattle.ci_yaml.proofs.LeastCodes.{stop-least}
@@ -133,8 +121,8 @@ refused-by bs at code le (inr h) = no_content le h.0.end (nothing-by (lines bs) 
 
 pub text-refused : (bs : List ℕ) (res : Result Tree YamlFault) → length bs ≤ MAX_FILE_BYTES → Reads (lines bs) res → IfErr res (RefusedBy bs)
 text-refused bs (Ok t) le h = tt
-text-refused bs (Err faults.Memory) le h = tt
-text-refused bs (Err (faults.Fault code at)) le h = refused-by bs at code le h
+text-refused bs (Err YamlFault.Memory) le h = tt
+text-refused bs (Err (YamlFault.Fault code at)) le h = refused-by bs at code le h
 
 some-same : (v w : Value) → Some v ≡ Some w → v ≡ w
 some-same v w e = cc
@@ -164,8 +152,8 @@ text-all bs (Ok t) h v d =
     let a = tree-read (lines bs) d.entries d.end v d.parses d.document in
     let same : h.0 ≡ a.reader = ok-same h.0 a.reader (read_lines beginning (lines bs)) h.1 a.read in
     some-same (value_view t) v (sym h.2 ∙ ap (λ (r : Reader). finished r.state) same ∙ a.tree)
-text-all bs (Err faults.Memory) h v d = tt
-text-all bs (Err (faults.Fault code at)) h v d =
+text-all bs (Err YamlFault.Memory) h v d = tt
+text-all bs (Err (YamlFault.Fault code at)) h v d =
     let a = tree-read (lines bs) d.entries d.end v d.parses d.document in
     no-tree-by bs v at code a.reader a.read a.tree h
 

@@ -1,18 +1,17 @@
 -- In the maps of a text's tree the keys differ, and it is at most ten deep.
-use Rattle.std.proofs.Common.{◌≡◌, ℕ, zero, suc, pos, ◌+◌, ◌<◌, ◌≤◌, true, false, cond, List, [], ◌∷◌, ◌++◌, length, Option, Some, None, refl, sym, subst, arith}
-use Rattle.std.specs.Prelude.{⊤, max, ◌||◌, codes}
+use Rattle.std.proofs.Common.{◌≡◌, ℕ, zero, suc, pos, ◌+◌, ◌<◌, ◌≤◌, true, false, cond, List, [], ◌∷◌, ◌++◌, length, Option, Some, None, refl, sym, subst, arith, max, ◌||◌, codes}
+use Rattle.std.specs.Prelude.{⊤}
 use Rattle.std.specs.Str.{bytes_eq}
 use Rattle.std.specs.Str.Lines.{lines}
-use Rattle.ci_yaml_lines.specs.Tree.{Kind, sequence, mapping, Value, null, boolean, number, text, node, Members, no_members, member, HaveNoNames}
-use Rattle.ci_yaml_lines.specs.Entry.{Entry}
-use Rattle.ci_yaml.specs.Node.{IsWithin, HasValue, here, deeper, nothing, IsNode, AreMembers, IsDocument, of_node, of_line}
-use Rattle.ci_yaml_lines.specs.Scalar.{drop_blanks, trim_end, head_is, tail_of, Quoted, quoted, is_quote, count_of, negative_of, number_of, number_or_text, plain_value}
-use Rattle.ci_yaml_lines.specs.Line.{End, comma, bracket, missing, cut_place, Place, plain_place, quoted_place, place, Listed, after_place, places, listed, Written, parse_line, Line}
-use Rattle.ci_yaml.specs.Block.{literal}
-use Rattle.ci_yaml.specs.Document.{Ending, filled, Parses, none, line, block, HasTree}
-use Rattle.ci_yaml.specs.Shape.{KeysDiffer, AllKeysDiffer, depth, members_depth}
+use Rattle.ci_yaml.specs.Prelude.{Kind, sequence, mapping, Value, null, boolean, number, text, node, Members, no_members, member, HaveNoNames, Entry, IsWithin, HasValue, here}
+use Rattle.ci_yaml.specs.Prelude.{deeper, nothing, IsNode, AreMembers, IsDocument, of_node, drop_blanks, trim_end, head_is, tail_of, Quoted, quoted, is_quote, count_of}
+use Rattle.ci_yaml.specs.Prelude.{negative_of, number_or_text, plain_value, End, comma, bracket, missing, cut_place, plain_place, quoted_place, place, Listed, after_place, places}
+use Rattle.ci_yaml.specs.Prelude.{listed, Written, parse_line, Line, literal, Ending, filled, Parses, none, HasTree, KeysDiffer, AllKeysDiffer, depth, members_depth, MAX_DEPTH}
+use Rattle.ci_yaml.specs.Node.{of_line}
+use Rattle.ci_yaml_lines.specs.Scalar.{number_of}
+use Rattle.ci_yaml_lines.specs.Prelude.{Place}
+use Rattle.ci_yaml.specs.Document.{line, block}
 use Rattle.ci_yaml_lines.proofs.Forms.{either, OfForms, EachEntry, OfEntries, written_at-each, written-each, entry-each, entries-join, entries-front, entries-behind}
-use Rattle.ci_yaml.specs.declared.limits.TheConstants.{MAX_DEPTH}
 
 -- ---- a value on a line is a scalar, or a list of scalars
 

@@ -1,13 +1,8 @@
 -- The texts of trees and open nodes that grow at their end.
 use Rattle.std.proofs.Common.{◌≡◌, ℕ, List, [], ◌∷◌, ◌++◌, sym, ◌∙◌, ap, append_assoc, append-nil}
 use Rattle.std.specs.Global.{Vec}
-use Rattle.ci_yaml_lines.specs.declared.tree.Text.{Text}
-use Rattle.ci_yaml_lines.specs.declared.tree.Tree.{Tree}
+use Rattle.ci_yaml.specs.Prelude.{Text, Tree, Items, Pairs, OpenMap, texts_in, items_texts, pairs_texts, open_texts, frames_texts}
 use Rattle.ci_yaml.specs.declared.progress.Frame.{Frame}
-use Rattle.ci_yaml.specs.declared.progress.Open.TheVariants.{Items, Pairs}
-use Rattle.ci_yaml.specs.declared.open_map.OpenMap.{OpenMap}
-use Rattle.ci_yaml_lines.specs.Spans.{texts_in, items_texts, pairs_texts}
-use Rattle.ci_yaml.specs.Spans.{open_texts, frames_texts}
 
 pub frames_texts-push : (fs : List Frame) (f : Frame) → frames_texts (fs ++ f ∷ []) ≡ frames_texts fs ++ open_texts f.members
 frames_texts-push [] f = append-nil (open_texts f.members)

@@ -2,13 +2,9 @@
 use Rattle.std.proofs.Common.{◌≡◌, ℕ, zero, suc, ◌+◌, ◌≤◌, false, ◌⊎◌, inl, inr, List, [], ◌∷◌, ◌++◌, length, take, drop, refl, sym, ◌∙◌, ap, subst, append_assoc, length-append, arith}
 use Rattle.std.proofs.lemmas.List.{append-nil}
 use Rattle.std.proofs.Math.Seq.{take-add}
-use Rattle.ci_yaml_lines.specs.declared.tree.Text.{Text}
-use Rattle.ci_yaml_lines.specs.TreeView.{bytes_of}
-use Rattle.ci_yaml_lines.specs.Line.{Chomp, Line}
-use Rattle.ci_yaml_lines.specs.Lent.{is_lent}
-use Rattle.ci_yaml.specs.Block.{literal}
-use Rattle.ci_yaml_lines.specs.Spans.{Stand, StandOn}
-use Rattle.ci_yaml.specs.Spans.{IsBlockAt, Lines, line, block, Follow, Ends, no_text, last_text, none}
+use Rattle.ci_yaml.specs.Prelude.{Text, bytes_of, Line, is_lent, literal, Stand, StandOn, IsBlockAt, Lines, Follow, Ends, no_text, last_text}
+use Rattle.ci_yaml_lines.specs.Prelude.{Chomp}
+use Rattle.ci_yaml.specs.Spans.{line, block, none}
 use Rattle.ci_yaml_lines.proofs.SpansStand.{stand-front}
 
 nothing-on : (n : ℕ) (l : Line) → StandOn n l []

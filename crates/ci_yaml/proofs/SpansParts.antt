@@ -1,25 +1,12 @@
 -- The texts of lines as the code holds them.
-use Rattle.std.proofs.Common.{◌≡◌, ℕ, suc, ◌+◌, ◌<◌, ◌≤◌, false, List, [], ◌∷◌, ◌++◌, length, take, drop, get_or, Option, Some, None, refl, Result, Ok, Err, sym, ◌∙◌, ap, subst, arith}
-use Rattle.std.specs.Prelude.{IfOk}
+use Rattle.std.proofs.Common.{◌≡◌, ℕ, suc, ◌+◌, ◌<◌, ◌≤◌, false, List, [], ◌∷◌, ◌++◌, length, take, drop, get_or, Option, Some, None, refl, Result, Ok, Err, sym, ◌∙◌, ap, subst}
+use Rattle.std.proofs.Common.{arith, IfOk}
 use denote.Bor.{Bor}
-use Rattle.ci_yaml.specs.declared.fault.YamlFault.{YamlFault}
+use Rattle.ci_yaml.specs.Prelude.{YamlFault, Code, least, is_lent, State, run, Reader, stop_or, ending_at, content, content_by, outside, within, last_column, entries_with}
+use Rattle.ci_yaml.specs.Prelude.{below_view, Passed, Text, Tree, bytes_of, chomp_view, Line, ParsedLine, parse_line, literal, AreBlock, EndsBlock, texts_of, texts_in, StandOn}
+use Rattle.ci_yaml.specs.Prelude.{IsBlockAt, state_texts, Lines, Follow, Ends, AreWritten}
 use Rattle.ci_yaml_lines.specs.declared.entry.Chomp.{Chomp as CodeChomp}
-use Rattle.ci_yaml_lines.specs.declared.code.Code.{Code}
-use Rattle.ci_yaml_lines.specs.Least.{least}
-use Rattle.ci_yaml_lines.specs.Lent.{is_lent}
-use Rattle.ci_yaml.specs.Reading.{State, run}
-use Rattle.ci_yaml.specs.ReadLines.{Reader, stop_or, ending_at, content, content_by}
-use Rattle.ci_yaml.specs.Document.{outside, within, last_column, entries_with}
-use Rattle.ci_yaml.specs.Stops.{below_view}
-use Rattle.ci_yaml.specs.declared.reader.Passed.{Passed}
-use Rattle.ci_yaml_lines.specs.declared.tree.Text.{Text}
-use Rattle.ci_yaml_lines.specs.declared.tree.Tree.{Tree}
-use Rattle.ci_yaml_lines.specs.View.{bytes_of, chomp_view}
-use Rattle.ci_yaml_lines.specs.Line.{Chomp, Line, ParsedLine, parse_line}
-use Rattle.ci_yaml.specs.Block.{literal, AreBlock, EndsBlock}
-use Rattle.ci_yaml.specs.Blocks.{texts_of}
-use Rattle.ci_yaml_lines.specs.Spans.{texts_in, StandOn}
-use Rattle.ci_yaml.specs.Spans.{IsBlockAt, state_texts, Lines, Follow, Ends, AreWritten}
+use Rattle.ci_yaml_lines.specs.Prelude.{Chomp}
 use Rattle.ci_yaml.proofs.BlockLines.{texts-take, length-texts}
 use Rattle.ci_yaml.proofs.ReadParts.{texts-drop, part-at, one}
 use Rattle.ci_yaml.proofs.SpansLines.{line-follows, block-follows, take-length as take-size}

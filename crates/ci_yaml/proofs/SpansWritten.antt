@@ -1,12 +1,10 @@
 -- Texts that stand one behind the other, line by line, are written there.
 use Rattle.std.proofs.Common.{◌≡◌, ℕ, suc, ◌+◌, ◌-◌, ◌<◌, ◌≤◌, inl, inr, List, [], ◌∷◌, ◌++◌, length, refl, sym, ◌∙◌, ap, subst, append_assoc, length-append, arith}
 use Rattle.std.specs.Prelude.{⊤}
-use Rattle.ci_yaml_lines.specs.declared.cut.SourceLine.{SourceLine}
+use Rattle.ci_yaml.specs.Prelude.{SourceLine, Text, Line, Stand, more, StandOn, IsBlockAt, on_line, in_block, AllAt, Precedes, Ascend, AreWritten, Lines}
 use Rattle.ci_yaml_lines.specs.declared.tree.Place.{Place}
-use Rattle.ci_yaml_lines.specs.declared.tree.Text.{Text}
-use Rattle.ci_yaml_lines.specs.Line.{Line}
-use Rattle.ci_yaml_lines.specs.Spans.{Stand, none, more, StandOn}
-use Rattle.ci_yaml.specs.Spans.{IsBlockAt, on_line, in_block, AllAt, Precedes, Ascend, AreWritten, Lines, line, block}
+use Rattle.ci_yaml_lines.specs.Prelude.{none}
+use Rattle.ci_yaml.specs.Spans.{line, block}
 
 -- ---- each text is what its span holds
 

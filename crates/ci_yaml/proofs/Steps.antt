@@ -1,28 +1,18 @@
 -- Steps of the code on open nodes.
-use Rattle.std.proofs.Common.{◌≡◌, ℕ, ◌+◌, ◌<◌, ◌≤◌, Bool, true, false, cond, List, [], ◌∷◌, ◌++◌, length, take, drop, get_or, Option, Ok, Err, refl, sym, ◌∙◌, ap, arith}
-use Rattle.std.specs.Prelude.{nat_lt, nat_le, ◌==◌}
+use Rattle.std.proofs.Common.{◌≡◌, ℕ, ◌+◌, ◌<◌, ◌≤◌, Bool, true, false, cond, List, [], ◌∷◌, ◌++◌, length, take, drop, get_or, Option, Ok, Err, refl, sym, ◌∙◌, ap, arith, nat_lt}
+use Rattle.std.proofs.Common.{nat_le, ◌==◌}
 use Rattle.std.proofs.lemmas.Bool.{lt-ltb, le-ltb, leb-true, leb-false}
 use Rattle.std.proofs.lemmas.List.{take_more, take-append-drop}
-use Rattle.ci_yaml_lines.specs.declared.code.Code.{Code}
-use Rattle.ci_yaml_lines.specs.declared.code.Code.TheVariants.{Y5, Y10}
+use Rattle.ci_yaml.specs.Prelude.{Code, Y5, Y10, Kind, sequence, mapping, Value, Members, push, inside, with_given, is_node}
+use Rattle.ci_yaml.specs.Prelude.{is_open_at, has_name, joined, level, is_repeated, Head, dash, key, Entry, level_of, Open, OpenMap, Items, Pairs, Text, Tree}
+use Rattle.ci_yaml.specs.Prelude.{bytes_of, items_view, pairs_view, open_kind, open_done, open_name, frame_view, frames_onto, frames_view, NoneJoins, MAX_DEPTH}
 use Rattle.ci_yaml.specs.declared.progress.Frame.{Frame}
-use Rattle.ci_yaml_lines.specs.Tree.{Kind, sequence, mapping, Value, Members, push}
 use Rattle.ci_yaml.specs.Reading as reading
-use Rattle.ci_yaml.specs.Reading.{State, inside, Settled, settle, value_of, misplaced, with_given, is_node, is_open_at, has_name, begun, begins, joined, entered, level, is_repeated}
-use Rattle.ci_yaml_lines.specs.Entry.{Head, dash, key, Entry, level_of}
 use Rattle.std.specs.Global.{Vec}
-use Rattle.ci_yaml.specs.declared.progress.Open.{Open}
-use Rattle.ci_yaml.specs.declared.open_map.OpenMap.{OpenMap}
-use Rattle.ci_yaml.specs.declared.progress.Open.TheVariants.{Items, Pairs}
-use Rattle.ci_yaml_lines.specs.declared.tree.Text.{Text}
-use Rattle.ci_yaml_lines.specs.declared.tree.Tree.{Tree}
 use Rattle.ci_yaml.proofs.Sound.{same_level}
-use Rattle.ci_yaml_lines.specs.View.{bytes_of, items_view, pairs_view}
-use Rattle.ci_yaml.specs.View.{open_kind, open_done, open_name, frame_view, frames_onto, frames_view, NoneJoins}
 use Rattle.ci_yaml_lines.proofs.Lists.{drop-at}
 use Rattle.ci_yaml_lines.proofs.Bools.{eq-true, eq-false}
 use Rattle.ci_yaml.proofs.Frames.{frames-push}
-use Rattle.ci_yaml.specs.declared.limits.TheConstants.{MAX_DEPTH}
 
 onto-length : (fs : List Frame) (gs : List reading.Frame) → length (frames_onto fs gs) ≡ length fs + length gs
 onto-length [] gs = omega arith

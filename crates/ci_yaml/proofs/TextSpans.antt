@@ -1,38 +1,20 @@
 -- Lines have one list of spans, and what is read has it.
-use Rattle.std.proofs.Common.{◌≡◌, ℕ, zero, suc, ◌+◌, ◌<◌, ◌≤◌, Bool, true, false, cond, List, [], ◌∷◌, ◌++◌, length, take, drop, get_or, Option, Some, None, Result, Ok, Err, refl, sym, ◌∙◌, ap, subst, append_assoc, arith}
-use Rattle.std.specs.Prelude.{⊤, IfOk, is_some, ◌||◌}
+use Rattle.std.proofs.Common.{◌≡◌, ℕ, zero, suc, ◌+◌, ◌<◌, ◌≤◌, Bool, true, false, cond, List, [], ◌∷◌, ◌++◌, length, take, drop, get_or, Option, Some, None, Result, Ok, Err, refl}
+use Rattle.std.proofs.Common.{sym, ◌∙◌, ap, subst, append_assoc, arith, IfOk, is_some, ◌||◌}
+use Rattle.std.specs.Prelude.{⊤}
 use denote.Bor.{Bor}
 use Rattle.std.proofs.lemmas.List.{append-nil, take-append-drop, drop-drop, nil_from_length, length-drop}
-use Rattle.ci_yaml_lines.specs.declared.code.Code.{Code}
-use Rattle.ci_yaml_lines.specs.declared.code.Code.TheVariants.{Y2}
-use Rattle.ci_yaml_lines.specs.declared.cut.SourceLine.{SourceLine}
-use Rattle.ci_yaml_lines.specs.declared.tree.Span.{Span}
-use Rattle.ci_yaml_lines.specs.declared.tree.Text.{Text}
-use Rattle.ci_yaml_lines.specs.declared.tree.Tree.{Tree, Text as TextTree}
-use Rattle.ci_yaml_lines.specs.declared.tree.Tree.TheOpen.{Tree-F}
-use Rattle.ci_yaml_lines.specs.declared.tree.Tree.TheViews.{roll-Tree}
-use Rattle.ci_yaml_lines.specs.declared.tree.Tree.TheFolds.{ind-Tree, fold-roll-Tree}
+use Rattle.ci_yaml.specs.Prelude.{Code, Y2, SourceLine, Span, Text, Tree, Tree-F, roll-Tree, ind-Tree, fold-roll-Tree, YamlFault, Passed, Value, null, boolean, number, text, node}
+use Rattle.ci_yaml.specs.Prelude.{value_view, view_step, texts_in, texts_step, chomp_view, given_view, head_is, tail_of, trim_end, only_comment, drop_blanks, Line, ParsedLine}
+use Rattle.ci_yaml.specs.Prelude.{parse_line, parse_content, parse_entries, keyed_or_bare, keyed, Keyed, written, written_at, unwritten, Item, inner, value, item, dashed, is_dash}
+use Rattle.ci_yaml.specs.Prelude.{spaces, is_skipped, least, given_texts, spans_of, given_spans, keyed_spans, item_spans, entries_spans, content_spans, line_spans, State, start}
+use Rattle.ci_yaml.specs.Prelude.{whole, inside, run, Reader, with_text, stop_or, ending_at, content, content_by, literal, AreBlock, EndsBlock, Ending, outside, within}
+use Rattle.ci_yaml.specs.Prelude.{last_column, entries_with, filled, below_view, texts_of, state_texts, block_span, with_last, HaveSpans, GoOn}
+use Rattle.ci_yaml_lines.specs.declared.tree.Tree.{Text as TextTree}
 use Rattle.ci_yaml_lines.specs.declared.entry.Chomp.{Chomp as CodeChomp}
-use Rattle.ci_yaml.specs.declared.fault.YamlFault.{YamlFault}
-use Rattle.ci_yaml.specs.declared.reader.Passed.{Passed}
 use Rattle.ci_yaml.specs.Reading as frames
-use Rattle.ci_yaml_lines.specs.Tree.{Value, null, boolean, number, text, node}
-use Rattle.ci_yaml_lines.specs.TreeView.{value_view, view_step}
-use Rattle.ci_yaml_lines.specs.TreeTexts.{texts_in, texts_step}
-use Rattle.ci_yaml_lines.specs.View.{chomp_view, given_view}
-use Rattle.ci_yaml_lines.specs.Scalar.{head_is, tail_of, trim_end, only_comment, drop_blanks}
-use Rattle.ci_yaml_lines.specs.Line.{Chomp, Line, ParsedLine, parse_line, parse_content, parse_entries, keyed_or_bare, keyed, Keyed, written, written_at, unwritten, Item, inner, value, item, dashed, is_dash, spaces, is_skipped}
-use Rattle.ci_yaml_lines.specs.Least.{least}
-use Rattle.ci_yaml_lines.specs.Spans.{given_texts}
-use Rattle.ci_yaml_lines.specs.SpansOf.{spans_of, given_spans, keyed_spans, item_spans, entries_spans, content_spans, line_spans}
-use Rattle.ci_yaml.specs.Reading.{State, start, whole, inside, run}
-use Rattle.ci_yaml.specs.ReadLines.{Reader, with_text, stop_or, ending_at, content, content_by}
-use Rattle.ci_yaml.specs.Block.{literal, AreBlock, EndsBlock}
-use Rattle.ci_yaml.specs.Document.{Ending, outside, within, last_column, entries_with, filled}
-use Rattle.ci_yaml.specs.Stops.{below_view}
-use Rattle.ci_yaml.specs.Blocks.{texts_of}
-use Rattle.ci_yaml.specs.Spans.{state_texts}
-use Rattle.ci_yaml.specs.TextSpans.{block_span, with_last, HaveSpans, none, line, block, GoOn}
+use Rattle.ci_yaml_lines.specs.Prelude.{Chomp}
+use Rattle.ci_yaml.specs.TextSpans.{none, line, block}
 use Rattle.ci_yaml_lines.proofs.Forms.{either, written_at-each, written-each}
 use Rattle.ci_yaml_lines.proofs.SpansOf.{spans-append}
 use Rattle.ci_yaml_lines.proofs.SpansTexts.{texts-Text}
@@ -46,9 +28,6 @@ use Rattle.ci_yaml.proofs.ReadParts.{texts-drop, part-at, one}
 use Rattle.ci_yaml.proofs.SpansLines.{take-length}
 
 -- ---- one list
-
-some-same : (g h : Chomp) → Some g ≡ Some h → g ≡ h
-some-same g h e = cc
 
 pub spans-same : (n m : ℕ) (ls ms : List Line) (a b : List Span) → HaveSpans n ls a → HaveSpans m ms b → n ≡ m → ls ≡ ms → a ≡ b
 spans-same n m ls ms a b (none n') (none m') at is = refl

@@ -1,24 +1,13 @@
 -- A text has one tree, or one fault.
-use Rattle.std.proofs.Common.{◌≡◌, ℕ, suc, ◌<◌, ◌≤◌, ◌⊎◌, inl, inr, List, [], ◌∷◌, ◌++◌, length, take, Option, Some, None, Result, Ok, Err, refl, sym, ◌∙◌, ap, subst, arith, append_assoc}
-use Rattle.std.specs.Prelude.{◌==◌, if◌then◌else◌, IfOk, IfErr}
+use Rattle.std.proofs.Common.{◌≡◌, ℕ, suc, ◌<◌, ◌≤◌, ◌⊎◌, inl, inr, List, [], ◌∷◌, ◌++◌, length, take, Option, Some, None, Result, Ok, Err, refl, sym, ◌∙◌, ap, subst, arith}
+use Rattle.std.proofs.Common.{append_assoc, ◌==◌, if◌then◌else◌, IfOk, IfErr}
 use Rattle.std.specs.Str.Lines.{lines}
 use Rattle.std.proofs.lemmas.Bool.{cases_lt}
-use Rattle.ci_values.specs.declared.limits.TheConstants.{MAX_FILE_BYTES}
-use Rattle.ci_yaml_lines.specs.declared.code.Code.{Code}
-use Rattle.ci_yaml_lines.specs.declared.code.Code.TheVariants.{Y1, Y2, Y3, Y4, Y5, Y6, Y7, Y8, Y9, Y10, Y11, Y12}
-use Rattle.ci_yaml_lines.specs.Tree.{Value, null, boolean, number, text, node}
-use Rattle.ci_yaml_lines.specs.Entry.{Entry}
-use Rattle.ci_yaml.specs.Node.{IsNode, IsDocument, of_node, of_line}
+use Rattle.ci_yaml.specs.Prelude.{MAX_FILE_BYTES, Code, Y1, Y2, Y3, Y4, Y5, Y6, Y7, Y8, Y9, Y10, Y11, Y12, Value, null, boolean, number, text, node, Entry, IsNode, IsDocument}
+use Rattle.ci_yaml.specs.Prelude.{of_node, finished, Line, Holds, HasTree, IsGood, has_tree, skipped, IsFault, too_long, at_line, no_content, Reader, read_lines, beginning}
+use Rattle.ci_yaml.specs.Prelude.{StopsAt, RefusedBy, GivesFault, value_view, Tree, YamlFault}
+use Rattle.ci_yaml.specs.Node.{of_line}
 use Rattle.ci_yaml_lines.specs.Least.{number_of}
-use Rattle.ci_yaml.specs.Reading.{finished}
-use Rattle.ci_yaml_lines.specs.Line.{Line}
-use Rattle.ci_yaml.specs.Document.{Holds, HasTree, IsGood, has_tree, skipped, IsFault, too_long, at_line, no_content}
-use Rattle.ci_yaml.specs.ReadLines.{Reader, read_lines, beginning}
-use Rattle.ci_yaml.specs.Stops.{StopsAt, RefusedBy, GivesFault}
-use Rattle.ci_yaml_lines.specs.View.{value_view}
-use Rattle.ci_yaml_lines.specs.declared.tree.Tree.{Tree}
-use Rattle.ci_yaml.specs.declared.fault.YamlFault.{YamlFault}
-use Rattle.ci_yaml.specs.declared.fault.YamlFault.TheVariants as faults
 use Rattle.ci_yaml.proofs.LeastCodes.{parses-same}
 use Rattle.ci_yaml.proofs.Trees.{some_is, tree-is, good-front, stops}
 use Rattle.ci_yaml.proofs.ReadTexts.{fault-at, nothing-by}
@@ -155,5 +144,5 @@ tree-or-fault bs = elim (cases_lt MAX_FILE_BYTES (length bs)) [
 pub text-all_faults : (bs : List ℕ) (res : Result Tree YamlFault) → IfOk res (λ t. HasTree bs (value_view t)) → IfErr res (RefusedBy bs)
     → (at : ℕ) (code : Code) → IsFault bs at code → GivesFault at code res
 text-all_faults bs (Ok t) tree fault at code f = not_both bs (value_view t) at code tree f
-text-all_faults bs (Err faults.Memory) tree fault at code f = tt
-text-all_faults bs (Err (faults.Fault c n)) tree fault at code f = one_fault bs n at c code fault f
+text-all_faults bs (Err YamlFault.Memory) tree fault at code f = tt
+text-all_faults bs (Err (YamlFault.Fault c n)) tree fault at code f = one_fault bs n at c code fault f

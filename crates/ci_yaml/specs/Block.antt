@@ -3,8 +3,7 @@ use Rattle.std.specs.Prelude.{◌≡◌, ℕ, ◌+◌, Bool, true, false, List, 
 use Rattle.ci_yaml_lines.specs.declared.code.Code.{Code}
 use Rattle.ci_yaml_lines.specs.declared.code.Code.TheVariants.{Y3, Y9}
 use Rattle.std.specs.List.{list_all}
-use Rattle.ci_yaml_lines.specs.Scalar.{when}
-use Rattle.ci_yaml_lines.specs.Line.{Line, is_space, Chomp, clip, strip, keep, spaces, has_byte_order_mark}
+use Rattle.ci_yaml_lines.specs.Prelude.{when, Line, is_space, Chomp, clip, strip, keep, spaces, has_byte_order_mark}
 
 abbrev pub is_spaces : Line → Bool
 is_spaces bs = list_all is_space bs

@@ -2,8 +2,7 @@
 use Rattle.std.specs.Prelude.{◌≡◌, ℕ, true, Some, List, [], ◌∷◌, ◌++◌, if◌then◌else◌, drop, min}
 use denote.Bor.{Bor}
 use Rattle.ci_yaml_lines.specs.declared.code.Code.{Code}
-use Rattle.ci_yaml_lines.specs.Least.{least}
-use Rattle.ci_yaml_lines.specs.Line.{spaces, Line}
+use Rattle.ci_yaml_lines.specs.Prelude.{least, spaces, Line}
 use Rattle.ci_yaml.specs.Block.{is_spaces, is_in_block, block_codes}
 
 -- the texts that are lent

@@ -1,15 +1,12 @@
 -- Which tree a text has, and which fault.
 use Rattle.std.specs.Prelude.{◌≡◌, ℕ, suc, ◌<◌, ◌≤◌, true, false, List, [], ◌∷◌, ◌++◌, length, take, Option, Some, None, Contains, ⊤}
 use Rattle.std.specs.Str.Lines.{lines}
-use Rattle.ci_values.specs.declared.limits.TheConstants.{MAX_FILE_BYTES}
+use Rattle.ci_yaml_lines.specs.Prelude.{MAX_FILE_BYTES, Value, text, when, Chomp, parse_line, Line}
 use Rattle.ci_yaml_lines.specs.declared.code.Code.{Code}
 use Rattle.ci_yaml_lines.specs.declared.code.Code.TheVariants.{Y1, Y3, Y4, Y5, Y10, Y12}
 use Rattle.ci_yaml_lines.specs.Least.{number_of}
-use Rattle.ci_yaml_lines.specs.Tree.{Value, text}
 use Rattle.ci_yaml_lines.specs.Entry.{Entry}
 use Rattle.ci_yaml.specs.Node.{IsDocument}
-use Rattle.ci_yaml_lines.specs.Scalar.{when}
-use Rattle.ci_yaml_lines.specs.Line.{Chomp, parse_line, Line}
 use Rattle.ci_yaml.specs.Codes.{holds_Y3, holds_Y4, holds_Y5, holds_Y10}
 use Rattle.ci_yaml.specs.Block.{is_in_block, literal, block_codes, AreBlock, EndsBlock}
 

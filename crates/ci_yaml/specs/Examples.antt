@@ -1,7 +1,7 @@
 -- Entries of maps that lie within one another, for worked examples.
 use Rattle.std.specs.Prelude.{ℕ, zero, suc, List, [], ◌∷◌, ◌++◌, Some, None, codes}
-use Rattle.ci_yaml_lines.specs.Tree.{sequence, node, no_members}
-use Rattle.ci_yaml_lines.specs.Entry.{Entry, key}
+use Rattle.ci_yaml_lines.specs.Prelude.{sequence, node, no_members, key}
+use Rattle.ci_yaml_lines.specs.Entry.{Entry}
 
 -- a key `a` in this column, with nothing behind it
 abbrev pub key_at : ℕ → Entry

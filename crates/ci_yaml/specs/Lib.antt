@@ -12,3 +12,4 @@ pub mod FaultText
 pub mod Block
 pub mod Blocks
 pub mod Examples
+pub mod Prelude

@@ -1,9 +1,7 @@
 -- Reading lines one after the other.
 use Rattle.std.specs.Prelude.{ℕ, List, [], ◌∷◌, ◌++◌, Option, Some, None, Result, Ok, Err, if◌then◌else◌}
 use Rattle.ci_yaml_lines.specs.declared.code.Code.{Code}
-use Rattle.ci_yaml_lines.specs.Least.{lesser, least}
-use Rattle.ci_yaml_lines.specs.Tree.{text}
-use Rattle.ci_yaml_lines.specs.Line.{Chomp, ParsedLine, parse_line, Line}
+use Rattle.ci_yaml_lines.specs.Prelude.{lesser, least, text, Chomp, ParsedLine, parse_line, Line}
 use Rattle.ci_yaml.specs.Reading.{◌>>=◌, State, start, whole, inside, run}
 use Rattle.ci_yaml.specs.Block.{is_in_block, block_codes, literal}
 use Rattle.ci_yaml.specs.Document.{Ending, outside, within, entries_with, last_column}

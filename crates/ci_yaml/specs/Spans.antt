@@ -7,13 +7,9 @@ use Rattle.ci_yaml.specs.declared.progress.Open.{Open}
 use Rattle.ci_yaml.specs.declared.progress.Open.TheVariants.{Items, Pairs}
 use Rattle.ci_yaml.specs.declared.progress.Progress.{Progress}
 use Rattle.ci_yaml.specs.declared.progress.Progress.TheVariants.{Start, Whole, Inside}
-use Rattle.ci_yaml_lines.specs.Line.{Chomp, Line, parse_line}
-use Rattle.ci_yaml_lines.specs.Lent.{is_lent}
+use Rattle.ci_yaml_lines.specs.Prelude.{Chomp, Line, parse_line, is_lent, bytes_of, texts_in, items_texts, pairs_texts, given_texts, Writes, StandOn}
 use Rattle.ci_yaml.specs.Block.{literal, AreBlock, EndsBlock}
 use Rattle.ci_yaml.specs.Document.{last_column}
-use Rattle.ci_yaml_lines.specs.TreeView.{bytes_of}
-use Rattle.ci_yaml_lines.specs.TreeTexts.{texts_in, items_texts, pairs_texts}
-use Rattle.ci_yaml_lines.specs.Spans.{given_texts, Writes, StandOn}
 
 abbrev pub open_texts : Open → List Text
 open_texts (Items v) = items_texts v.items

@@ -1,8 +1,7 @@
 -- Which spans the texts of a text's tree have: there is one list of them.
 use Rattle.std.specs.Prelude.{◌≡◌, ℕ, suc, ◌+◌, List, [], ◌∷◌, ◌++◌, length, drop, Some, None}
 use Rattle.ci_yaml_lines.specs.declared.tree.Span.{Span}
-use Rattle.ci_yaml_lines.specs.Line.{Chomp, Line, parse_line}
-use Rattle.ci_yaml_lines.specs.SpansOf.{line_spans}
+use Rattle.ci_yaml_lines.specs.Prelude.{Chomp, Line, parse_line, line_spans}
 use Rattle.ci_yaml.specs.Block.{AreBlock, EndsBlock}
 use Rattle.ci_yaml.specs.Document.{last_column}
 

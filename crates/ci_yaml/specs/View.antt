@@ -1,18 +1,15 @@
 -- What the code holds of lines and open nodes, without where it lies in memory.
 use Rattle.std.specs.Prelude.{◌≡◌, ℕ, List, [], ◌∷◌, Option, Result, Ok, Err, ⊤}
-use Rattle.ci_yaml_lines.specs.TreeView.{bytes_of, value_view, items_view, pairs_view}
+use Rattle.ci_yaml_lines.specs.Prelude.{bytes_of, value_view, items_view, pairs_view, Kind, sequence, mapping, Value, Members, given_view}
 use Rattle.ci_yaml.specs.declared.progress.Frame.{Frame}
 use Rattle.ci_yaml.specs.declared.progress.Open.{Open}
 use Rattle.ci_yaml.specs.declared.progress.Open.TheVariants.{Items, Pairs}
-use Rattle.ci_yaml_lines.specs.Tree.{Kind, sequence, mapping, Value, Members}
 use Rattle.ci_yaml_lines.specs.Entry as entry
 use Rattle.ci_yaml.specs.Reading as reading
 use Rattle.ci_yaml_lines.specs.declared.code.Code.{Code}
 use Rattle.ci_yaml.specs.declared.fault.Stop.{Stop}
-use Rattle.ci_yaml.specs.declared.fault.Stop.TheVariants as stops
 use Rattle.ci_yaml.specs.declared.progress.Progress.{Progress}
 use Rattle.ci_yaml.specs.declared.progress.Progress.TheVariants.{Start, Whole, Inside}
-use Rattle.ci_yaml_lines.specs.View.{given_view}
 
 abbrev pub open_kind : Open → Kind
 open_kind (Items v) = sequence
@@ -44,8 +41,8 @@ state_view (Inside fs given) = reading.inside (frames_view fs.items) (given_view
 
 -- What a function returned is what reading gives, unless memory ran out.
 abbrev pub Fails : {Y : Type 0} → Stop → Result Y Code → Type 0
-Fails stops.Memory read = ⊤
-Fails (stops.Fault c) read = read ≡ Err c
+Fails Stop.Memory read = ⊤
+Fails (Stop.Fault c) read = read ≡ Err c
 
 abbrev pub Gives : {X Y : Type 0} → (X → Y) → Result X Stop → Result Y Code → Type 0
 Gives view (Ok x) read = read ≡ Ok (view x)

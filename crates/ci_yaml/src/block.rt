@@ -1,9 +1,8 @@
 //! Literal blocks.
 
 ghost use Rattle.std.specs.Prelude.{◌≡◌, ℕ, ◌<◌, ◌≤◌, ◌++◌, [], IfOk, IfErr, length, take, drop, string_bytes};
-ghost use Rattle.ci_yaml_lines.specs.Least.{least};
+ghost use Rattle.ci_yaml_lines.specs.Prelude.{least, chomp_view};
 ghost use Rattle.ci_yaml.specs.Block.{is_spaces, is_in_block, is_low, indent_codes, more_indent, block_indent, kept_len, literal, AreBlock, EndsBlock};
-ghost use Rattle.ci_yaml_lines.specs.View.{chomp_view};
 ghost use Rattle.ci_yaml.specs.Blocks.{texts_of, cut_text, cut_lines, cut_strip, StopsBlock};
 
 use ci_yaml_lines::code::{Code, least_of, when};

@@ -3,12 +3,10 @@
 ghost use Rattle.std.specs.Prelude.{◌≡◌, ◌==◌, ◌∷◌, ◌++◌, [], map, Option, Some, Ok, Err, IfOk, IfSome, if◌then◌else◌};
 ghost use Rattle.ci_yaml_lines.specs.declared.code.Code.TheVariants.{Y3};
 ghost use Rattle.ci_yaml.specs.declared.progress.Frame.{Frame};
-ghost use Rattle.ci_yaml_lines.specs.Tree.{sequence, mapping, Value};
-ghost use Rattle.ci_yaml_lines.specs.Entry.{dash, key, bare};
-ghost use Rattle.ci_yaml_lines.specs.View.{bytes_of, value_view, given_view, entry_view};
+ghost use Rattle.ci_yaml_lines.specs.Prelude.{sequence, mapping, Value, dash, key, bare, bytes_of, value_view, given_view, entry_view, texts_in, given_texts, entry_texts};
+ghost use Rattle.ci_yaml_lines.specs.Prelude.{entries_texts};
 ghost use Rattle.ci_yaml.specs.View.{frame_view, frames_view, state_view, Gives, GivesNodes};
 ghost use Rattle.ci_yaml.specs.Reading.{with_given, member_next, bare_next, next, run, finished, close_all};
-ghost use Rattle.ci_yaml_lines.specs.Spans.{texts_in, given_texts, entry_texts, entries_texts};
 ghost use Rattle.ci_yaml.specs.Spans.{open_texts, frames_texts, state_texts};
 
 use crate::fault::Stop;

@@ -4,10 +4,9 @@ ghost use Rattle.std.specs.Prelude.{◌≡◌, ℕ, ◌≤◌, ◌⊎◌, true, 
 ghost use Rattle.std.specs.Str.Lines.{lines};
 ghost use Rattle.ci_yaml_lines.specs.declared.code.Code.{Code};
 ghost use Rattle.ci_yaml_lines.specs.declared.code.Code.TheVariants.{Y1};
-ghost use Rattle.ci_yaml_lines.specs.Tree.{Value};
+ghost use Rattle.ci_yaml_lines.specs.Prelude.{Value, Line};
 ghost use Rattle.ci_yaml_lines.specs.Entry.{Entry};
 ghost use Rattle.ci_yaml.specs.Node.{IsDocument};
-ghost use Rattle.ci_yaml_lines.specs.Line.{Line};
 ghost use Rattle.ci_yaml.specs.Document.{Ending, Parses, HasTree, IsGood, IsLeast, IsFault};
 ghost use Rattle.ci_yaml.specs.Codes.{holds_Y10};
 ghost use Rattle.ci_yaml.specs.Examples.{key_at, list_at, nested};

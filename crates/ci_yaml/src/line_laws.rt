@@ -2,13 +2,9 @@
 
 ghost use Rattle.std.specs.Prelude.{◌≡◌, ℕ, List, [], Some, true, false, drop};
 ghost use Rattle.std.specs.List.{list_all};
-ghost use Rattle.ci_yaml_lines.specs.Tree.{Members};
-ghost use Rattle.ci_yaml_lines.specs.Scalar.{Quoted, quoted, is_blank, head_is, trim_end, comment_len, before_comment, only_comment};
-ghost use Rattle.ci_yaml_lines.specs.Line.{Line, listed, is_skipped, spaces, parse_line};
-ghost use Rattle.ci_yaml_lines.specs.Quoting.{IsQuoted};
-ghost use Rattle.ci_yaml_lines.specs.Comment.{IsCut};
-ghost use Rattle.ci_yaml_lines.specs.FlowList.{IsList};
-ghost use Rattle.ci_yaml_lines.specs.Tabs.{IsClear};
+ghost use Rattle.ci_yaml_lines.specs.Prelude.{Members, quoted, is_blank, head_is, trim_end, comment_len, before_comment, only_comment, Line, listed, is_skipped, spaces};
+ghost use Rattle.ci_yaml_lines.specs.Prelude.{parse_line, IsQuoted, IsCut, IsList, IsClear};
+ghost use Rattle.ci_yaml_lines.specs.Scalar.{Quoted};
 
 /// A quoted scalar is read from a text exactly where it is written in front.
 pub fn reads_quoted()

@@ -3,12 +3,9 @@
 ghost use Rattle.std.specs.Prelude.{◌≡◌, ◌∷◌, ◌++◌, [], Option, Some, None, IfOk, IfSome};
 ghost use Rattle.ci_yaml.specs.declared.progress.Frame.{Frame};
 ghost use Rattle.ci_yaml.specs.declared.progress.Open.TheVariants.{Items, Pairs};
-ghost use Rattle.ci_yaml_lines.specs.Tree.{Value, sequence, mapping};
-ghost use Rattle.ci_yaml_lines.specs.Entry.{dash, key};
-ghost use Rattle.ci_yaml_lines.specs.View.{bytes_of, value_view, given_view};
+ghost use Rattle.ci_yaml_lines.specs.Prelude.{Value, sequence, mapping, dash, key, bytes_of, value_view, given_view, texts_in, given_texts};
 ghost use Rattle.ci_yaml.specs.View.{frames_view, GivesNodes, NoneJoins};
 ghost use Rattle.ci_yaml.specs.Reading.{joined, begins, value_of, entered};
-ghost use Rattle.ci_yaml_lines.specs.Spans.{texts_in, given_texts};
 ghost use Rattle.ci_yaml.specs.Spans.{frames_texts};
 
 use crate::fault::Stop;

@@ -1,11 +1,10 @@
 //! The open nodes.
 
 ghost use Rattle.std.specs.Prelude.{◌≡◌, ◌+◌, ◌*◌, ◌∷◌, ◌++◌, [], Option, IfOk, Ok, Err, length, nat_lt, nat_le, if◌then◌else◌};
-ghost use Rattle.ci_yaml_lines.specs.Tree.{Value, sequence, mapping, node, push};
-ghost use Rattle.ci_yaml_lines.specs.View.{bytes_of, value_view, items_view, pairs_view, given_view};
+ghost use Rattle.ci_yaml_lines.specs.Prelude.{Value, sequence, mapping, node, push, bytes_of, value_view, items_view, pairs_view, given_view, texts_in, items_texts, pairs_texts};
+ghost use Rattle.ci_yaml_lines.specs.Prelude.{given_texts};
 ghost use Rattle.ci_yaml.specs.View.{frame_view, frames_view, state_view, Gives, GivesNodes};
 ghost use Rattle.ci_yaml.specs.Reading.{closed, level, settle, top_deeper, misplaced, is_node, with_given};
-ghost use Rattle.ci_yaml_lines.specs.Spans.{texts_in, items_texts, pairs_texts, given_texts};
 ghost use Rattle.ci_yaml.specs.Spans.{open_texts, frames_texts, state_texts};
 ghost use Rattle.ci_yaml_lines.specs.declared.code.Code.TheVariants.{Y10};
 

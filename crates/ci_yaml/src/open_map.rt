@@ -2,10 +2,8 @@
 
 ghost use Rattle.std.specs.Prelude.{◌≡◌, ℕ, List, [], ◌∷◌, ◌++◌, IfOk};
 ghost use Rattle.std.specs.BTreeSet.{contains_text};
-ghost use Rattle.ci_yaml_lines.specs.Tree.{no_members, push};
+ghost use Rattle.ci_yaml_lines.specs.Prelude.{no_members, push, bytes_of, value_view, pairs_view, texts_in, pairs_texts};
 ghost use Rattle.ci_yaml.specs.Reading.{has_name};
-ghost use Rattle.ci_yaml_lines.specs.TreeView.{bytes_of, value_view, pairs_view};
-ghost use Rattle.ci_yaml_lines.specs.TreeTexts.{texts_in, pairs_texts};
 
 use ci_yaml_lines::tree::{Text, Tree};
 use std::alloc::{AllocError, Global};

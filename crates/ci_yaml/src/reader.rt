@@ -1,21 +1,16 @@
 //! Reading a text.
 
 ghost use Rattle.std.specs.Prelude.{◌≡◌, ℕ, suc, ◌+◌, ◌<◌, ◌≤◌, ◌++◌, List, [], map, option_map, IfOk, IfErr, Ok, Err, false, length, take, drop};
-ghost use Rattle.ci_yaml_lines.specs.View.{bytes_of, chomp_view, value_view, entry_view, parsed_view};
+ghost use Rattle.ci_yaml_lines.specs.Prelude.{bytes_of, chomp_view, value_view, entry_view, parsed_view, parse_line, lesser, Value, is_lent, texts_in, entries_texts, spans_of};
+ghost use Rattle.ci_yaml_lines.specs.Prelude.{line_spans};
 ghost use Rattle.ci_yaml.specs.View.{state_view};
-ghost use Rattle.ci_yaml_lines.specs.Line.{parse_line};
 ghost use Rattle.ci_yaml.specs.ReadLines.{Reader, with_text, ending_at, content, read_lines, beginning};
-ghost use Rattle.ci_yaml_lines.specs.Least.{lesser};
 ghost use Rattle.ci_yaml.specs.Block.{literal, AreBlock, EndsBlock};
 ghost use Rattle.ci_yaml.specs.Document.{last_column, HasTree, IsFault};
-ghost use Rattle.ci_yaml_lines.specs.Tree.{Value};
 ghost use Rattle.ci_yaml.specs.Blocks.{texts_of};
 ghost use Rattle.ci_yaml.specs.Stops.{below_view, passed_view, entered, GivesAt, BlockFails, StopsBy, HasRead, AreShort, Reads, RefusedBy, GivesTree, GivesFault};
 ghost use Rattle.std.specs.Str.Lines.{lines};
-ghost use Rattle.ci_yaml_lines.specs.Lent.{is_lent};
-ghost use Rattle.ci_yaml_lines.specs.Spans.{texts_in, entries_texts};
 ghost use Rattle.ci_yaml.specs.Spans.{state_texts, Follow, Ends, Lines, AreWritten};
-ghost use Rattle.ci_yaml_lines.specs.SpansOf.{spans_of, line_spans};
 ghost use Rattle.ci_yaml.specs.TextSpans.{with_last, HaveSpans, GoOn};
 ghost use Rattle.ci_yaml_lines.specs.declared.code.Code.{Code};
 ghost use Rattle.ci_yaml_lines.specs.declared.code.Code.TheVariants.{Y1};

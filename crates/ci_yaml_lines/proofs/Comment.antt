@@ -1,10 +1,9 @@
 -- A text is cut where its comment begins.
-use Rattle.std.proofs.Common.{◌≡◌, ℕ, suc, ◌+◌, Bool, true, false, cond, List, [], ◌∷◌, ◌++◌, take, drop, refl, sym, ◌∙◌, ap, subst, arith}
-use Rattle.std.specs.Prelude.{◌==◌, ◌&&◌}
+use Rattle.std.proofs.Common.{◌≡◌, ℕ, suc, ◌+◌, Bool, true, false, cond, List, [], ◌∷◌, ◌++◌, take, drop, refl, sym, ◌∙◌, ap, subst, arith, ◌==◌, ◌&&◌}
 use Rattle.std.specs.List.{list_all}
 use Rattle.std.proofs.lemmas.Bool.{eqb-true}
-use Rattle.ci_yaml_lines.specs.Scalar.{is_blank, comment_len, before_comment, only_comment}
-use Rattle.ci_yaml_lines.specs.Comment.{last_of, HasNoComment, IsComment, nothing, comment, IsCut}
+use Rattle.ci_yaml_lines.specs.Prelude.{is_blank, comment_len, before_comment, only_comment, last_of, HasNoComment, IsComment, comment, IsCut}
+use Rattle.ci_yaml_lines.specs.Comment.{nothing}
 use Rattle.ci_yaml_lines.proofs.Bools.{eq-true}
 
 both : (a b : Bool) → (a && b) ≡ true → (a ≡ true) × (b ≡ true)

@@ -1,9 +1,7 @@
 -- Digits, read one after the other.
-use Rattle.std.proofs.Common.{◌≡◌, ℕ, ◌+◌, ◌-◌, ◌*◌, ◌<◌, ◌≤◌, true, cond, List, [], ◌∷◌, Option, Some, None, ◌∙◌, ap, arith}
-use Rattle.std.specs.Prelude.{nat_le, ◌&&◌}
+use Rattle.std.proofs.Common.{◌≡◌, ℕ, ◌+◌, ◌-◌, ◌*◌, ◌<◌, ◌≤◌, true, cond, List, [], ◌∷◌, Option, Some, None, ◌∙◌, ap, arith, nat_le, ◌&&◌}
 use Rattle.std.proofs.lemmas.Bool.{le-leb}
-use Rattle.ci_values.specs.declared.limits.TheConstants.{MAX_NUMBER}
-use Rattle.ci_yaml_lines.specs.Scalar.{is_digit, all_digits, digits_value}
+use Rattle.ci_yaml_lines.specs.Prelude.{MAX_NUMBER, is_digit, all_digits, digits_value}
 use Rattle.ci_yaml_lines.proofs.Bools.{le-false, and_false}
 
 -- the number after n, with these digits

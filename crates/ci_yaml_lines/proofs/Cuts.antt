@@ -1,6 +1,6 @@
 -- Where a line's text may be cut.
 use Rattle.std.proofs.Common.{◌≡◌, ◌≢◌, ℕ, zero, suc, ◌+◌, ◌-◌, ◌<◌, ◌≤◌, Bool, true, false, cond, List, [], ◌∷◌, ◌++◌, length, take, get_or, refl, sym, ◌∙◌, ap, subst, arith}
-use Rattle.std.specs.Prelude.{◌==◌, ◌&&◌, ◌||◌}
+use Rattle.std.proofs.Common.{◌==◌, ◌&&◌, ◌||◌}
 use Rattle.std.specs.Str.{IsUtf8, IsCharBoundary}
 use Rattle.std.specs.List.{prefix_len}
 use Rattle.std.proofs.lemmas.Str.{IsCharBoundary-start, IsCharBoundary-after_ascii}
@@ -8,8 +8,7 @@ use Rattle.std.proofs.lemmas.List.Sums.{prefix_len-le-length, prefix_len_passes}
 use Rattle.std.proofs.lemmas.Bool.{eqb-true}
 use Rattle.ci_yaml_lines.proofs.Bools.{eq-false}
 use Rattle.ci_yaml_lines.proofs.Lists.{last-parted, push-some}
-use Rattle.ci_yaml_lines.specs.Scalar.{is_blank, blanks, trimmed_len, comment_len, space_next}
-use Rattle.ci_yaml_lines.specs.Line.{place_len, key_len, is_space, spaces}
+use Rattle.ci_yaml_lines.specs.Prelude.{is_blank, blanks, trimmed_len, comment_len, space_next, place_len, key_len, is_space, spaces}
 
 -- ---- behind blanks
 

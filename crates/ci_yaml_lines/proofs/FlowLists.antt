@@ -1,17 +1,17 @@
 -- Lists on one line are read without a code exactly as they are written.
-use Rattle.std.proofs.Common.{◌≡◌, ◌≢◌, ℕ, zero, suc, ◌+◌, ◌<◌, ◌≤◌, Bool, true, false, cond, List, [], ◌∷◌, ◌++◌, length, take, drop, Option, Some, None, refl, sym, ◌∙◌, ap, subst, append_assoc, length-append, arith}
-use Rattle.std.specs.Prelude.{◌==◌, ◌&&◌, ◌||◌, not}
+use Rattle.std.proofs.Common.{◌≡◌, ◌≢◌, ℕ, zero, suc, ◌+◌, ◌<◌, ◌≤◌, Bool, true, false, cond, List, [], ◌∷◌, ◌++◌, length, take, drop, Option, Some, None, refl, sym, ◌∙◌, ap}
+use Rattle.std.proofs.Common.{subst, append_assoc, length-append, arith, ◌==◌, ◌&&◌, ◌||◌, not}
 use Rattle.std.specs.List.{list_all}
 use Rattle.std.proofs.lemmas.Bool.{eqb-true, eqb-false}
 use Rattle.std.proofs.lemmas.List.{append-nil, take-append-drop}
-use Rattle.ci_yaml_lines.specs.declared.code.Code.{Code}
-use Rattle.ci_yaml_lines.specs.declared.code.Code.TheVariants.{Y7, Y8, Y9, Y11}
-use Rattle.ci_yaml_lines.specs.Tree.{Value, text, Members, no_members, member}
-use Rattle.ci_yaml_lines.specs.Scalar.{is_blank, blanks, drop_blanks, is_nil, trimmed_len, trim_end, space_next, head_is, tail_of, has_tab_after, is_indicator, is_forbidden, has_colon, plain_value, plain_codes, when, Quoted, is_quote, quoted}
-use Rattle.ci_yaml_lines.specs.Line.{End, comma, bracket, missing, place_len, end_of, cut_place, has_inner, Place, place_codes, plain_place, behind_quoted, quoted_place, place, Listed, with_place, after_place, places, listed}
-use Rattle.ci_yaml_lines.specs.Comment.{last_of, HasNoComment}
-use Rattle.ci_yaml_lines.specs.Quoting.{doubled, Between, IsQuoted, in_single, in_double}
-use Rattle.ci_yaml_lines.specs.FlowList.{AreBlanks, Lacks, LacksPair, HasNoMarkBeforeTab, IsTrimmed, IsPlain, IsQuotedPlace, IsPlace, plain, in_quotes, ArePlaces, last, more, IsList, empty}
+use Rattle.ci_yaml_lines.specs.Prelude.{Code, Y7, Y8, Y9, Y11, Value, text, Members, no_members, member, is_blank, blanks, drop_blanks, is_nil, trimmed_len, trim_end, space_next}
+use Rattle.ci_yaml_lines.specs.Prelude.{head_is, tail_of, has_tab_after, is_indicator, is_forbidden, has_colon, plain_value, plain_codes, when, is_quote, quoted, comma, bracket}
+use Rattle.ci_yaml_lines.specs.Prelude.{missing, place_len, end_of, cut_place, has_inner, Place, place_codes, plain_place, behind_quoted, quoted_place, place, with_place}
+use Rattle.ci_yaml_lines.specs.Prelude.{after_place, places, listed, last_of, HasNoComment, doubled, Between, IsQuoted, in_single, in_double, AreBlanks, Lacks, LacksPair}
+use Rattle.ci_yaml_lines.specs.Prelude.{HasNoMarkBeforeTab, IsTrimmed, IsPlain, IsQuotedPlace, IsPlace, ArePlaces, last, IsList, empty}
+use Rattle.ci_yaml_lines.specs.Scalar.{Quoted}
+use Rattle.ci_yaml_lines.specs.Line.{End, Listed}
+use Rattle.ci_yaml_lines.specs.FlowList.{plain, in_quotes, more}
 use Rattle.ci_yaml_lines.specs.FlowList as flow
 use Rattle.std.proofs.Math.Seq.{drop-append_seam, take-append_seam}
 use Rattle.ci_yaml_lines.proofs.Bools.{eq-true}
@@ -436,10 +436,6 @@ pair-tail b c d bs lacks xs ys e = lacks (d ∷ xs) ys (ap (λ (x : List ℕ). d
 pair-first : (b c d : ℕ) (bs : List ℕ) → LacksPair b c (d ∷ bs) → (d == b) ≡ true → head_is c bs ≡ true → ⊥
 pair-first b c d [] lacks e f = absurd cc
 pair-first b c d (x ∷ bs) lacks e f = lacks [] bs (ap (λ (n : ℕ). n ∷ x ∷ bs) (eqb-true d b e) ∙ ap (λ (n : ℕ). b ∷ n ∷ bs) (sym (eqb-true c x f)))
-
-or-one : (a b : Bool) → (a || b) ≡ true → (a ≡ false → b ≡ true)
-or-one true b e f = absurd cc
-or-one false b e f = e
 
 either : (a b : Bool) (P : Type 0) → (a ≡ true → P) → (b ≡ true → P) → (a || b) ≡ true → P
 either true b P f g e = f refl

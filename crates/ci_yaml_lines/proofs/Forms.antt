@@ -1,11 +1,13 @@
 -- What holds of each line, by the forms that a line and its values may have.
-use Rattle.std.proofs.Common.{ℕ, zero, suc, ◌+◌, Bool, true, false, cond, List, [], ◌∷◌, ◌++◌, length, drop, Option, Some, None, is_some}
-use Rattle.std.specs.Prelude.{⊤, ◌==◌, ◌&&◌, ◌||◌}
-use Rattle.ci_yaml_lines.specs.declared.code.Code.{Code}
-use Rattle.ci_yaml_lines.specs.declared.code.Code.TheVariants.{Y2, Y9}
-use Rattle.ci_yaml_lines.specs.Entry.{dash, key, bare, Entry}
-use Rattle.ci_yaml_lines.specs.Scalar.{drop_blanks, trim_end, head_is, tail_of, before_comment, only_comment, when, Quoted, quoted, is_quote}
-use Rattle.ci_yaml_lines.specs.Line.{Chomp, clip, strip, keep, Written, header_rest, header_of, written_quoted, written_list, listed, written_plain, written_at, unwritten, written, Keyed, keyed, keyed_or_bare, is_dash, spaces, Item, inner, value, item, ParsedLine, entry_of, header_code, with_dash, dashed, parse_entries, with_codes, parse_content, is_document_mark, is_skipped, Line, parse_line}
+use Rattle.std.proofs.Common.{ℕ, zero, suc, ◌+◌, Bool, true, false, cond, List, [], ◌∷◌, ◌++◌, length, drop, Option, Some, None, is_some, ◌==◌, ◌&&◌, ◌||◌}
+use Rattle.std.specs.Prelude.{⊤}
+use Rattle.ci_yaml_lines.specs.Prelude.{Code, Y2, Y9, dash, key, bare, drop_blanks, trim_end, head_is, tail_of, before_comment, only_comment, when, quoted, is_quote, Chomp, clip}
+use Rattle.ci_yaml_lines.specs.Prelude.{strip, keep, header_rest, header_of, written_quoted, written_list, listed, written_plain, written_at, unwritten, written, keyed}
+use Rattle.ci_yaml_lines.specs.Prelude.{keyed_or_bare, is_dash, spaces, item, ParsedLine, entry_of, header_code, with_dash, dashed, parse_entries, with_codes, parse_content}
+use Rattle.ci_yaml_lines.specs.Prelude.{is_document_mark, is_skipped, Line, parse_line}
+use Rattle.ci_yaml_lines.specs.Entry.{Entry}
+use Rattle.ci_yaml_lines.specs.Scalar.{Quoted}
+use Rattle.ci_yaml_lines.specs.Line.{Written, Keyed, Item, inner, value}
 
 pub either : {A : Type 0} (P : A → Type 0) (b : Bool) (x y : A) → P x → P y → P (cond b x y)
 either P true x y p q = p

@@ -1,9 +1,8 @@
 -- The least of some codes and others.
-use Rattle.std.proofs.Common.{◌≡◌, Bool, true, false, cond, List, [], ◌∷◌, ◌++◌, Option, Some, None, refl, sym, ◌∙◌, ap, arith}
-use Rattle.std.specs.Prelude.{nat_le}
+use Rattle.std.proofs.Common.{◌≡◌, Bool, true, false, cond, List, [], ◌∷◌, ◌++◌, Option, Some, None, refl, sym, ◌∙◌, ap, arith, nat_le}
 use Rattle.std.proofs.lemmas.Bool.{leb-true, leb-false}
-use Rattle.ci_yaml_lines.specs.declared.code.Code.{Code}
-use Rattle.ci_yaml_lines.specs.Least.{number_of, lesser, least, least_of}
+use Rattle.ci_yaml_lines.specs.Prelude.{Code, lesser, least, least_of}
+use Rattle.ci_yaml_lines.specs.Least.{number_of}
 
 chosen : (p q r : Bool) (c d e : Code) → nat_le (number_of c) (number_of d) ≡ p → nat_le (number_of d) (number_of e) ≡ q → nat_le (number_of c) (number_of e) ≡ r
     → lesser c (Some (cond q d e)) ≡ cond (nat_le (number_of (cond p c d)) (number_of e)) (cond p c d) e

@@ -1,14 +1,10 @@
 -- Quoted scalars that are written as they are read, and those that aren't.
-use Rattle.std.proofs.Common.{◌≡◌, ℕ, suc, ◌+◌, ◌<◌, ◌≤◌, Bool, true, false, cond, List, [], ◌∷◌, ◌++◌, length, Option, Some, None, string_bytes, refl, sym, ◌∙◌, ap, subst, length-append, arith}
-use Rattle.std.specs.Prelude.{◌==◌, Result, Ok, Err, IfOk, IfSome, option_map}
-use Rattle.ci_yaml_lines.specs.declared.quoted.QuotedWords.{QuotedWords}
-use Rattle.ci_yaml_lines.specs.View.{quoted_words_view}
-use Rattle.ci_yaml_lines.specs.declared.tree.Words.{Words}
-use Rattle.ci_yaml_lines.specs.declared.tree.Words.TheVariants.{Lent, Owned}
-use Rattle.ci_yaml_lines.specs.Scalar.{Quoted, with_words, single, double, head_is, tail_of}
-use Rattle.ci_yaml_lines.specs.TreeView.{words_of}
-use Rattle.ci_yaml_lines.specs.Quoting.{doubled, Between, nothing, itself, escape, misused}
-use Rattle.ci_yaml_lines.specs.Lent.{is_lent, IsLent, LentAs, LentUpTo, LentBetween}
+use Rattle.std.proofs.Common.{◌≡◌, ℕ, suc, ◌+◌, ◌<◌, ◌≤◌, Bool, true, false, cond, List, [], ◌∷◌, ◌++◌, length, Option, Some, None, string_bytes, refl, sym, ◌∙◌, ap, subst}
+use Rattle.std.proofs.Common.{length-append, arith, ◌==◌, Result, Ok, Err, IfOk, IfSome, option_map}
+use Rattle.ci_yaml_lines.specs.Prelude.{QuotedWords, quoted_words_view, Words, Lent, Owned, with_words, single, double, head_is, tail_of, words_of, doubled, Between, itself}
+use Rattle.ci_yaml_lines.specs.Prelude.{escape, misused, is_lent, IsLent, LentAs, LentUpTo, LentBetween}
+use Rattle.ci_yaml_lines.specs.Scalar.{Quoted}
+use Rattle.ci_yaml_lines.specs.Quoting.{nothing}
 use Rattle.ci_yaml_lines.proofs.Quotes.{after-pair}
 use Rattle.ci_yaml_lines.proofs.Quoting.{SingleIs, single-read, DoubleIs, double-read}
 

@@ -1,22 +1,22 @@
 -- What a line says, from what its parts say.
-use Rattle.std.proofs.Common.{◌≡◌, ℕ, suc, ◌+◌, ◌-◌, ◌<◌, ◌≤◌, Bool, true, false, cond, List, [], ◌∷◌, ◌++◌, length, map, drop, Option, Some, None, refl, sym, ◌∙◌, ap, append_assoc, arith, length-drop, length-take}
-use Rattle.std.specs.Prelude.{◌==◌, ◌&&◌, ◌||◌, option_map, is_some}
+use Rattle.std.proofs.Common.{◌≡◌, ℕ, suc, ◌+◌, ◌-◌, ◌<◌, ◌≤◌, Bool, true, false, cond, List, [], ◌∷◌, ◌++◌, length, map, drop, Option, Some, None, refl, sym, ◌∙◌, ap}
+use Rattle.std.proofs.Common.{append_assoc, arith, length-drop, length-take, ◌==◌, ◌&&◌, ◌||◌, option_map, is_some}
 use Rattle.std.proofs.lemmas.List.{append-nil}
 use Rattle.std.proofs.lemmas.List.Sums.{prefix_len-le-length}
-use Rattle.ci_values.specs.declared.limits.TheConstants.{MAX_FILE_BYTES}
-use Rattle.ci_yaml_lines.specs.declared.code.Code.{Code}
-use Rattle.ci_yaml_lines.specs.declared.code.Code.TheVariants.{Y2, Y8, Y9}
+use Rattle.ci_yaml_lines.specs.Prelude.{MAX_FILE_BYTES, Code, Y2, Y8, Y9, Tree, push, Value, text, node, sequence, Members, least, least_of, dash, key, bare, drop_blanks}
+use Rattle.ci_yaml_lines.specs.Prelude.{only_comment, head_is, tail_of, trim_end, trimmed_len, before_comment, is_quote, quoted, when, item, parse_entries, keyed_or_bare, keyed}
+use Rattle.ci_yaml_lines.specs.Prelude.{unwritten, written, written_at, header_code, is_dash, is_document_mark, parse_content, parse_line, is_skipped, has_control}
+use Rattle.ci_yaml_lines.specs.Prelude.{has_byte_order_mark, spaces, is_space, place, places, after_place, value_view, items_view, entry_view, place_view, end_view, keyed_view}
+use Rattle.ci_yaml_lines.specs.Prelude.{least_keyed, LeastKeyed, LeastWritten, least_written, written_of_list, least_item, LeastParsed, least_parsed, with_entries, least_entry}
+use Rattle.ci_yaml_lines.specs.Prelude.{key_parsed, bare_parsed, with_places, LeastListed, least_listed, LeastPlace, least_place}
 use Rattle.ci_yaml_lines.specs.declared.line.Keyed.{Keyed}
-use Rattle.ci_yaml_lines.specs.declared.tree.Tree.{Tree}
 use Rattle.ci_yaml_lines.specs.declared.flow.Place as code
 use Rattle.ci_yaml_lines.specs.declared.entry.Entry as parts
-use Rattle.ci_yaml_lines.specs.Tree.{push, Value, text, node, sequence, Members}
-use Rattle.ci_yaml_lines.specs.Least.{least, least_of}
-use Rattle.ci_yaml_lines.specs.Entry.{Entry, dash, key, bare}
-use Rattle.ci_yaml_lines.specs.Scalar.{Quoted, drop_blanks, only_comment, head_is, tail_of, trim_end, trimmed_len, before_comment, is_quote, quoted, when}
+use Rattle.ci_yaml_lines.specs.Entry.{Entry}
+use Rattle.ci_yaml_lines.specs.Scalar.{Quoted}
 use Rattle.ci_yaml_lines.specs.Line as line
-use Rattle.ci_yaml_lines.specs.Line.{Item, item, parse_entries, keyed_or_bare, keyed, unwritten, written, written_at, header_code, is_dash, is_document_mark, parse_content, parse_line, is_skipped, has_control, has_byte_order_mark, spaces, is_space, place, places, after_place}
-use Rattle.ci_yaml_lines.specs.View.{value_view, items_view, entry_view, place_view, end_view, keyed_view, least_keyed, LeastKeyed, LeastWritten, least_written, written_of_list, inner, value, least_item, LeastParsed, least_parsed, with_entries, least_entry, key_parsed, bare_parsed, with_places, LeastListed, least_listed, LeastPlace, least_place}
+use Rattle.ci_yaml_lines.specs.Line.{Item}
+use Rattle.ci_yaml_lines.specs.View.{inner, value}
 use Rattle.ci_yaml_lines.proofs.Leasts.{least_append, least_of_none}
 use Rattle.ci_yaml_lines.proofs.Views.{items-push}
 use Rattle.ci_yaml_lines.proofs.Turns.{place-turn, places-end}

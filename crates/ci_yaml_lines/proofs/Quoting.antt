@@ -1,9 +1,10 @@
 -- Quoted scalars are read as they are written.
-use Rattle.std.proofs.Common.{◌≡◌, ◌≢◌, ℕ, Bool, true, false, cond, List, [], ◌∷◌, ◌++◌, Option, Some, None, refl, sym, ◌∙◌, ap, subst}
-use Rattle.std.specs.Prelude.{◌==◌, ◌||◌, IfSome}
+use Rattle.std.proofs.Common.{◌≡◌, ◌≢◌, ℕ, Bool, true, false, cond, List, [], ◌∷◌, ◌++◌, Option, Some, None, refl, sym, ◌∙◌, ap, subst, ◌==◌, ◌||◌, IfSome}
 use Rattle.std.proofs.lemmas.Bool.{eqb-true, eqb-false}
-use Rattle.ci_yaml_lines.specs.Scalar.{Quoted, with_byte, wrongly, closes, with_words, single, is_escape, escaped, double, quoted, head_is, tail_of}
-use Rattle.ci_yaml_lines.specs.Quoting.{doubled, Escape, backslash, quote, line_feed, tab, Between, nothing, itself, escape, misused, IsQuoted, in_single, in_double}
+use Rattle.ci_yaml_lines.specs.Scalar.{Quoted}
+use Rattle.ci_yaml_lines.specs.Prelude.{with_byte, wrongly, closes, with_words, single, is_escape, escaped, double, quoted, head_is, tail_of, doubled, Escape, backslash, quote}
+use Rattle.ci_yaml_lines.specs.Prelude.{line_feed, tab, Between, itself, escape, misused, IsQuoted, in_single, in_double}
+use Rattle.ci_yaml_lines.specs.Quoting.{nothing}
 use Rattle.ci_yaml_lines.proofs.Quotes.{single-other, single-quote, double-other, double-quote}
 use Rattle.ci_yaml_lines.proofs.Bools.{eq-false}
 

@@ -1,8 +1,6 @@
 -- Searches from byte to byte.
-use Rattle.std.proofs.Common.{◌≡◌, ℕ, ◌+◌, ◌-◌, ◌<◌, ◌≤◌, Bool, true, false, cond, List, [], ◌∷◌, length, take, drop, get_or, sym, ◌∙◌, ap, arith}
-use Rattle.std.specs.Prelude.{◌==◌, ◌&&◌, ◌||◌}
-use Rattle.ci_yaml_lines.specs.Scalar.{space_next}
-use Rattle.ci_yaml_lines.specs.Line.{key_len}
+use Rattle.std.proofs.Common.{◌≡◌, ℕ, ◌+◌, ◌-◌, ◌<◌, ◌≤◌, Bool, true, false, cond, List, [], ◌∷◌, length, take, drop, get_or, sym, ◌∙◌, ap, arith, ◌==◌, ◌&&◌, ◌||◌}
+use Rattle.ci_yaml_lines.specs.Prelude.{space_next, key_len}
 use Rattle.ci_yaml_lines.proofs.Lists.{take-past}
 
 -- what follows the first

@@ -1,24 +1,18 @@
 -- Where the texts of a list on one line stand.
-use Rattle.std.proofs.Common.{◌≡◌, ℕ, suc, ◌+◌, Bool, true, false, cond, List, [], ◌∷◌, ◌++◌, length, take, drop, ◌⊎◌, inl, inr, refl, sym, ◌∙◌, ap, subst, append_assoc, arith, rules}
-use Rattle.std.specs.Prelude.{◌==◌, Result, Ok, Err, IfOk}
+use Rattle.std.proofs.Common.{◌≡◌, ℕ, suc, ◌+◌, Bool, true, false, cond, List, [], ◌∷◌, ◌++◌, length, take, drop, ◌⊎◌, inl, inr, refl, sym, ◌∙◌, ap, subst, append_assoc, arith}
+use Rattle.std.proofs.Common.{rules, ◌==◌, Result, Ok, Err, IfOk}
 use Rattle.std.proofs.lemmas.Bool.{eqb-true}
 use Rattle.std.proofs.lemmas.List.{append-nil, take-append-drop}
 use Rattle.std.proofs.Math.Seq.{drop-append_seam}
-use Rattle.ci_yaml_lines.specs.Scalar.{is_blank, blanks, drop_blanks, trimmed_len, trim_end, tail_of}
+use Rattle.ci_yaml_lines.specs.Prelude.{is_blank, blanks, drop_blanks, trimmed_len, trim_end, tail_of, place_len, end_of, cut_place, SourceLine, Span, Tree, Null as NullTree}
+use Rattle.ci_yaml_lines.specs.Prelude.{the_lemmas, Comma, Bracket, Missing, Cut, end_view, cut_view, span_before, Stand, none, texts_in, items_texts, OnlyText, behind_end}
+use Rattle.ci_yaml_lines.specs.Prelude.{behind_list}
 use Rattle.ci_yaml_lines.specs.Line as line
-use Rattle.ci_yaml_lines.specs.Line.{place_len, end_of, cut_place}
-use Rattle.ci_yaml_lines.specs.declared.cut.SourceLine.{SourceLine}
-use Rattle.ci_yaml_lines.specs.declared.tree.Span.{Span}
 use Rattle.ci_yaml_lines.specs.declared.tree.Text.{Text}
-use Rattle.ci_yaml_lines.specs.declared.tree.Tree.{Tree, Null as NullTree, Text as TextTree, the_lemmas}
+use Rattle.ci_yaml_lines.specs.declared.tree.Tree.{Text as TextTree}
 use Rattle.ci_yaml_lines.specs.declared.flow.End.{End}
-use Rattle.ci_yaml_lines.specs.declared.flow.End.TheVariants.{Comma, Bracket, Missing}
-use Rattle.ci_yaml_lines.specs.declared.flow.Cut.{Cut}
 use Rattle.ci_yaml_lines.specs.declared.flow.Listed.{Listed}
-use Rattle.ci_yaml_lines.specs.View.{end_view, cut_view}
-use Rattle.ci_yaml_lines.specs.Spans.{plain, span_before, Stand, none, texts_in, items_texts}
-use Rattle.ci_yaml_lines.specs.SpansScalar.{OnlyText}
-use Rattle.ci_yaml_lines.specs.SpansFlow.{behind_end, behind_list}
+use Rattle.ci_yaml_lines.specs.Spans.{plain}
 use Rattle.ci_yaml_lines.proofs.SpansTexts.{texts-Text, items_texts-push}
 use Rattle.ci_yaml_lines.proofs.SpansStand.{stand-earlier, stand-none, stand-then, stand-all, stand-one}
 

@@ -1,17 +1,12 @@
 -- Where the texts stand of what is written behind a dash or a colon.
-use Rattle.std.proofs.Common.{◌≡◌, ℕ, List, [], ◌∷◌, ◌++◌, length, drop, Option, Some, Result, Ok, Err, refl, sym, ◌∙◌, ap, subst, append_assoc}
-use Rattle.std.specs.Prelude.{IfOk, IfSome}
+use Rattle.std.proofs.Common.{◌≡◌, ℕ, List, [], ◌∷◌, ◌++◌, length, drop, Option, Some, Result, Ok, Err, refl, sym, ◌∙◌, ap, subst, append_assoc, IfOk, IfSome}
 use Rattle.std.proofs.lemmas.List.{take-append-drop}
 use Rattle.std.proofs.Math.Seq.{drop-append_seam}
-use Rattle.ci_yaml_lines.specs.declared.cut.SourceLine.{SourceLine}
+use Rattle.ci_yaml_lines.specs.Prelude.{SourceLine, Span, IsLent, tail_of, trim_end, trimmed_len, before_comment, comment_len, span_before, Stand, texts_in, OnlyText}
 use Rattle.ci_yaml_lines.specs.declared.quoted.Quoted.{Quoted}
-use Rattle.ci_yaml_lines.specs.declared.tree.Span.{Span}
 use Rattle.ci_yaml_lines.specs.declared.tree.Text.{Text}
 use Rattle.ci_yaml_lines.specs.declared.tree.Tree.{Text as TextTree}
-use Rattle.ci_yaml_lines.specs.Lent.{IsLent}
-use Rattle.ci_yaml_lines.specs.Scalar.{tail_of, trim_end, trimmed_len, before_comment, comment_len}
-use Rattle.ci_yaml_lines.specs.Spans.{plain, span_before, Stand, texts_in}
-use Rattle.ci_yaml_lines.specs.SpansScalar.{OnlyText}
+use Rattle.ci_yaml_lines.specs.Spans.{plain}
 use Rattle.ci_yaml_lines.proofs.SpansStand.{stand-none, stand-all, stand-one}
 use Rattle.ci_yaml_lines.proofs.SpansFlow.{EndsIn, ends-none, ends-drop, ends-tail, stand-within, stand-only}
 use Rattle.ci_yaml_lines.proofs.SpansTexts.{texts-Text}

@@ -1,29 +1,25 @@
 -- The spans of a line's texts are those that its definition finds.
-use Rattle.std.proofs.Common.{◌≡◌, ℕ, suc, ◌+◌, ◌-◌, ◌<◌, ◌≤◌, ℤ, pos, Bool, true, false, cond, List, [], ◌∷◌, ◌++◌, length, drop, Option, Some, None, refl, sym, ◌∙◌, ap, subst, append_assoc, arith, rules}
-use Rattle.std.specs.Prelude.{⊤, ◌==◌, ◌||◌, codes, option_map, IfSome}
+use Rattle.std.proofs.Common.{◌≡◌, ℕ, suc, ◌+◌, ◌-◌, ◌<◌, ◌≤◌, pos, Bool, true, false, cond, List, [], ◌∷◌, ◌++◌, length, drop, Option, Some, None, refl, sym, ◌∙◌, ap, subst}
+use Rattle.std.proofs.Common.{append_assoc, arith, rules, ◌==◌, ◌||◌, codes, option_map, IfSome}
+use Rattle.std.specs.Prelude.{⊤}
 use Rattle.std.proofs.lemmas.List.{append-nil}
 use Rattle.std.specs.Str.{bytes_eq}
-use Rattle.ci_yaml_lines.specs.declared.cut.SourceLine.{SourceLine}
-use Rattle.ci_yaml_lines.specs.declared.tree.Span.{Span}
+use Rattle.ci_yaml_lines.specs.Prelude.{SourceLine, Span, Tree, Null as NullTree, the_lemmas, Dash, Value, null, boolean, number, text, node}
+use Rattle.ci_yaml_lines.specs.Prelude.{bytes_of, value_view, quoted, is_quote, head_is, tail_of, drop_blanks, single, double, count_of, negative_of, number_or_text, plain_value}
+use Rattle.ci_yaml_lines.specs.Prelude.{only_comment, trim_end, place, written_at, written, keyed, item, is_dash, unwritten, spaces, is_skipped, Line, place_view, end_view}
+use Rattle.ci_yaml_lines.specs.Prelude.{quoted_view, given_view, LeastPlace, least_place, LeastKeyed, LeastItem, least_item, keyed_view, least_keyed, written_view, least_written}
+use Rattle.ci_yaml_lines.specs.Prelude.{LeastWritten, span_before, texts_in, items_texts, given_texts, entries_texts, text_spans, KeyOf, spans_of, scalar_span, scalar_spans}
+use Rattle.ci_yaml_lines.specs.Prelude.{spans_behind, places_spans, list_spans, given_spans, keyed_spans, item_spans, entries_spans, content_spans, line_spans}
 use Rattle.ci_yaml_lines.specs.declared.tree.Text.{Text}
-use Rattle.ci_yaml_lines.specs.declared.tree.Tree.{Tree, Null as NullTree, Bool as BoolTree, Int as IntTree, Text as TextTree, the_lemmas}
+use Rattle.ci_yaml_lines.specs.declared.tree.Tree.{Text as TextTree}
 use Rattle.ci_yaml_lines.specs.declared.flow.Place as code
 use Rattle.ci_yaml_lines.specs.declared.quoted.Quoted as parts
 use Rattle.ci_yaml_lines.specs.declared.line.Keyed as heads
 use Rattle.ci_yaml_lines.specs.declared.written.Written as wholes
 use Rattle.ci_yaml_lines.specs.declared.entry.Entry.{Entry}
-use Rattle.ci_yaml_lines.specs.declared.entry.Head.TheVariants.{Dash}
-use Rattle.ci_yaml_lines.specs.Tree.{Value, null, boolean, number, text, node}
-use Rattle.ci_yaml_lines.specs.TreeView.{bytes_of, value_view}
-use Rattle.ci_yaml_lines.specs.Scalar.{Quoted, quoted, is_quote, head_is, tail_of, drop_blanks, single, double, count_of, negative_of, number_of, number_or_text, plain_value, only_comment, trim_end}
+use Rattle.ci_yaml_lines.specs.Scalar.{Quoted, number_of}
 use Rattle.ci_yaml_lines.specs.Line as line
-use Rattle.ci_yaml_lines.specs.Line.{place, written_at, written, keyed, item, is_dash, unwritten, spaces, is_skipped, Line}
-use Rattle.ci_yaml_lines.specs.View.{place_view, end_view, quoted_view, given_view, LeastPlace, least_place, LeastKeyed, LeastItem, least_item, keyed_view, least_keyed, written_view, least_written, LeastWritten}
-use Rattle.ci_yaml_lines.specs.Spans.{span_before, texts_in, items_texts, given_texts, entries_texts}
-use Rattle.ci_yaml_lines.specs.SpansScalar.{text_spans}
-use Rattle.ci_yaml_lines.specs.SpansParsed.{KeyOf}
-use Rattle.ci_yaml_lines.specs.SpansOf.{spans_of, scalar_span, scalar_spans, spans_behind, places_spans, list_spans, given_spans, keyed_spans, item_spans, entries_spans, content_spans, line_spans}
-use Rattle.ci_yaml_lines.proofs.Views.{view-Null, view-Bool, view-Int, view-Text}
+use Rattle.ci_yaml_lines.proofs.Views.{view-Null}
 use Rattle.ci_yaml_lines.proofs.SpansTexts.{texts-Text, items_texts-push}
 use Rattle.ci_yaml_lines.proofs.SpansParsed.{entries-texts-push}
 use Rattle.std.proofs.lemmas.Bool.{eqb-false}
@@ -38,24 +34,6 @@ spans-append (t ∷ ts) us = ap (λ (x : List Span). t.span ∷ x) (spans-append
 
 texts-Null : texts_in NullTree ≡ []
 texts-Null = search (rules, the_lemmas)
-
-texts-Bool : (b : Bool) → texts_in (BoolTree b) ≡ []
-texts-Bool b = search (rules, the_lemmas)
-
-texts-Int : (n : ℤ) → texts_in (IntTree n) ≡ []
-texts-Int n = search (rules, the_lemmas)
-
-pub exact-Null : (span : Span) → spans_of (texts_in NullTree) ≡ text_spans span (value_view NullTree)
-exact-Null span = ap spans_of texts-Null ∙ ap (text_spans span) (sym view-Null)
-
-pub exact-Bool : (span : Span) (b : Bool) → spans_of (texts_in (BoolTree b)) ≡ text_spans span (value_view (BoolTree b))
-exact-Bool span b = ap spans_of (texts-Bool b) ∙ ap (text_spans span) (sym (view-Bool b))
-
-pub exact-Int : (span : Span) (n : ℤ) → spans_of (texts_in (IntTree n)) ≡ text_spans span (value_view (IntTree n))
-exact-Int span n = ap spans_of (texts-Int n) ∙ ap (text_spans span) (sym (view-Int n))
-
-pub exact-Text : (t : Text) → spans_of (texts_in (TextTree t)) ≡ text_spans t.span (value_view (TextTree t))
-exact-Text t = ap spans_of (texts-Text t) ∙ ap (text_spans t.span) (sym (view-Text t))
 
 pub one-text : (t : Text) (span : Span) → t.span ≡ span → spans_of (texts_in (TextTree t)) ≡ span ∷ []
 one-text t span is = ap spans_of (texts-Text t) ∙ ap (λ (s : Span). s ∷ []) is

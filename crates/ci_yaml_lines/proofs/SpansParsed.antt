@@ -1,22 +1,17 @@
 -- Where the texts of a line stand.
-use Rattle.std.proofs.Common.{◌≡◌, ℕ, ◌+◌, ◌-◌, ◌≤◌, Bool, true, false, cond, List, [], ◌∷◌, ◌++◌, length, take, drop, Option, Some, None, refl, sym, ◌∙◌, ap, subst, append_assoc, arith, length-append, length-drop}
-use Rattle.std.specs.Prelude.{IfSome}
+use Rattle.std.proofs.Common.{◌≡◌, ℕ, ◌+◌, ◌-◌, ◌≤◌, Bool, true, false, cond, List, [], ◌∷◌, ◌++◌, length, take, drop, Option, Some, None, refl, sym, ◌∙◌, ap, subst, append_assoc}
+use Rattle.std.proofs.Common.{arith, length-append, length-drop, IfSome}
 use Rattle.std.proofs.lemmas.List.{append-nil, take-append-drop}
 use Rattle.std.proofs.lemmas.List.Sums.{prefix_len-le-length}
-use Rattle.ci_yaml_lines.specs.declared.cut.SourceLine.{SourceLine}
+use Rattle.ci_yaml_lines.specs.Prelude.{SourceLine, Dash, IsLent, tail_of, drop_blanks, blanks, head_is, trim_end, trimmed_len, Split, split_colon, key_len, spaces, is_space}
+use Rattle.ci_yaml_lines.specs.Prelude.{span_before, Stand, StandOn, given_texts, entry_texts, entries_texts, GoOn, KeyOf, ItemStands}
 use Rattle.ci_yaml_lines.specs.declared.tree.Text.{Text}
 use Rattle.ci_yaml_lines.specs.declared.quoted.Quoted.{Quoted}
 use Rattle.ci_yaml_lines.specs.declared.line.Keyed.{Keyed}
 use Rattle.ci_yaml_lines.specs.declared.line.Item.{Item}
 use Rattle.ci_yaml_lines.specs.declared.line.Item.TheVariants.{Value}
 use Rattle.ci_yaml_lines.specs.declared.entry.Entry.{Entry}
-use Rattle.ci_yaml_lines.specs.declared.entry.Head.TheVariants.{Dash}
 use Rattle.ci_yaml_lines.specs.declared.written.Written.{Written}
-use Rattle.ci_yaml_lines.specs.Lent.{IsLent}
-use Rattle.ci_yaml_lines.specs.Scalar.{tail_of, drop_blanks, blanks, head_is, trim_end, trimmed_len}
-use Rattle.ci_yaml_lines.specs.Line.{Split, split_colon, key_len, spaces, is_space}
-use Rattle.ci_yaml_lines.specs.Spans.{span_before, Stand, StandOn, given_texts, entry_texts, entries_texts}
-use Rattle.ci_yaml_lines.specs.SpansParsed.{GoOn, KeyOf, ItemStands}
 use Rattle.ci_yaml_lines.proofs.SpansStand.{stand-none, stand-then, stand-all, longer, stand-longer}
 use Rattle.ci_yaml_lines.proofs.SpansFlow.{EndsIn, ends-more, ends-drop, ends-tail, ends-then, stand-end}
 use Rattle.ci_yaml_lines.proofs.SpansGiven.{stand-tail, stand_drop, stand-trimmed, trimmed-parts}

@@ -1,12 +1,9 @@
 -- How far a quoted scalar reaches: it is read alone as it is before a rest.
-use Rattle.std.proofs.Common.{◌≡◌, ℕ, Bool, true, false, cond, List, [], ◌∷◌, ◌++◌, Option, Some, None, refl, ◌∙◌, ap, subst, append_assoc}
-use Rattle.std.specs.Prelude.{◌==◌, ◌||◌, IfSome}
-use Rattle.ci_yaml_lines.specs.Scalar.{Quoted, with_byte, wrongly, closes, single, is_escape, escaped, double, quoted}
-use Rattle.ci_yaml_lines.specs.declared.cut.SourceLine.{SourceLine}
+use Rattle.std.proofs.Common.{◌≡◌, ℕ, Bool, true, false, cond, List, [], ◌∷◌, ◌++◌, Option, Some, None, refl, ◌∙◌, ap, subst, append_assoc, ◌==◌, ◌||◌, IfSome}
+use Rattle.ci_yaml_lines.specs.Scalar.{Quoted}
+use Rattle.ci_yaml_lines.specs.Prelude.{with_byte, wrongly, closes, single, is_escape, escaped, double, quoted, SourceLine, quoted_view, Stand, span_before, LentBetween}
 use Rattle.ci_yaml_lines.specs.declared.quoted.Quoted as code
-use Rattle.ci_yaml_lines.specs.View.{quoted_view}
-use Rattle.ci_yaml_lines.specs.Spans.{Stand, in_quotes, span_before}
-use Rattle.ci_yaml_lines.specs.Lent.{LentBetween}
+use Rattle.ci_yaml_lines.specs.Spans.{in_quotes}
 use Rattle.ci_yaml_lines.proofs.Quoting.{quoted-is}
 use Rattle.ci_yaml_lines.proofs.Quotes.{single-other, double-other}
 use Rattle.ci_yaml_lines.proofs.SpansStand.{stand-one}

@@ -1,9 +1,9 @@
 -- The laws of the texts that stand one behind the other in a line.
 use Rattle.std.proofs.Common.{◌≡◌, ℕ, ◌+◌, ◌-◌, List, [], ◌∷◌, ◌++◌, length, refl, sym, ◌∙◌, ap, append_assoc, arith}
 use Rattle.std.proofs.lemmas.List.{append-nil, length-append}
-use Rattle.ci_yaml_lines.specs.declared.cut.SourceLine.{SourceLine}
+use Rattle.ci_yaml_lines.specs.Prelude.{SourceLine, Writes, span_before, Stand, none}
 use Rattle.ci_yaml_lines.specs.declared.tree.Text.{Text}
-use Rattle.ci_yaml_lines.specs.Spans.{Writes, span_before, Stand, none, more}
+use Rattle.ci_yaml_lines.specs.Spans.{more}
 
 -- from further in front
 pub stand-earlier : (at : SourceLine) (a b c front : List ℕ) (ts : List Text) → a ≡ front ++ b → Stand at b ts c → Stand at a ts c

@@ -2,8 +2,8 @@
 use Rattle.std.proofs.Common.{◌≡◌, List, [], ◌∷◌, ◌++◌, sym, ◌∙◌, ap, append_assoc, append-nil, rules}
 use Rattle.std.specs.Global.{Vec}
 use Rattle.ci_yaml_lines.specs.declared.tree.Text.{Text}
-use Rattle.ci_yaml_lines.specs.declared.tree.Tree.{Tree, List as ListTree, Map as MapTree, Text as TextTree, the_lemmas}
-use Rattle.ci_yaml_lines.specs.Spans.{texts_in, items_texts, pairs_texts}
+use Rattle.ci_yaml_lines.specs.Prelude.{Tree, List as ListTree, Map as MapTree, the_lemmas, texts_in, items_texts, pairs_texts}
+use Rattle.ci_yaml_lines.specs.declared.tree.Tree.{Text as TextTree}
 
 pub texts-List : (v : Vec Tree) → texts_in (ListTree v) ≡ items_texts v.items
 texts-List v = search (rules, the_lemmas)

@@ -1,19 +1,22 @@
 -- No `-` or `:` stands before a tab in a line without codes, but in quotes and comments.
-use Rattle.std.proofs.Common.{◌≡◌, ℕ, zero, suc, ◌+◌, ◌<◌, Bool, true, false, cond, List, [], ◌∷◌, ◌++◌, length, take, drop, Option, Some, None, refl, sym, ◌∙◌, ap, subst, append_assoc, length-append, length-drop, arith}
-use Rattle.std.specs.Prelude.{◌==◌, ◌&&◌, ◌||◌, not, is_some}
+use Rattle.std.proofs.Common.{◌≡◌, ℕ, zero, suc, ◌+◌, ◌<◌, Bool, true, false, cond, List, [], ◌∷◌, ◌++◌, length, take, drop, Option, Some, None, refl, sym, ◌∙◌, ap, subst}
+use Rattle.std.proofs.Common.{append_assoc, length-append, length-drop, arith, ◌==◌, ◌&&◌, ◌||◌, not, is_some}
 use Rattle.std.specs.List.{list_all}
 use Rattle.std.proofs.lemmas.Bool.{eqb-true}
 use Rattle.std.proofs.lemmas.List.{take-append-drop}
-use Rattle.ci_yaml_lines.specs.declared.code.Code.{Code}
-use Rattle.ci_yaml_lines.specs.declared.code.Code.TheVariants.{Y2, Y6, Y7, Y9, Y11}
-use Rattle.ci_yaml_lines.specs.Tree.{Members}
-use Rattle.ci_yaml_lines.specs.Scalar.{Quoted, is_blank, blanks, drop_blanks, trim_end, space_next, head_is, tail_of, comment_len, before_comment, only_comment, has_tab_after, is_forbidden, has_colon, plain_codes, when, is_quote}
+use Rattle.ci_yaml_lines.specs.Prelude.{Code, Y2, Y6, Y7, Y9, Y11, Members, is_blank, blanks, drop_blanks, trim_end, space_next, head_is, tail_of, comment_len, before_comment}
+use Rattle.ci_yaml_lines.specs.Prelude.{only_comment, has_tab_after, is_forbidden, has_colon, when, is_quote, comma, bracket, missing, place, places, after_place}
+use Rattle.ci_yaml_lines.specs.Prelude.{listed, Chomp, clip, strip, keep, behind_value, digit_next, header_rest, header_of, written_quoted, written_list, written_plain, written_at}
+use Rattle.ci_yaml_lines.specs.Prelude.{written, rest_codes, key_len, split_colon, plain_key, is_colon, quoted_key, keyed, is_dash, ParsedLine, header_code, keyed_or_bare, spaces}
+use Rattle.ci_yaml_lines.specs.Prelude.{item, dashed, unwritten, parse_entries, is_document_mark, parse_content, is_skipped, has_control, has_byte_order_mark, parse_line, last_of}
+use Rattle.ci_yaml_lines.specs.Prelude.{IsComment, comment, AreBlanks, HasNoMarkBeforeTab, IsPlace, ArePlaces, last, IsList, empty, IsClear, unquoted}
+use Rattle.ci_yaml_lines.specs.Scalar.{Quoted}
 use Rattle.ci_yaml_lines.specs.Scalar as scalar
-use Rattle.ci_yaml_lines.specs.Line.{comma, bracket, missing, End, place, places, after_place, listed, Chomp, clip, strip, keep, behind_value, digit_next, header_rest, header_of, written_quoted, written_list, written_plain, written_at, written, rest_codes, Keyed, key_len, split_colon, plain_key, is_colon, quoted_key, keyed, is_dash, ParsedLine, header_code, keyed_or_bare, spaces, Item, inner, value, item, dashed, unwritten, parse_entries, is_document_mark, parse_content, is_skipped, has_control, has_byte_order_mark, parse_line}
-use Rattle.ci_yaml_lines.specs.Comment.{last_of, IsComment, nothing, comment}
-use Rattle.ci_yaml_lines.specs.FlowList.{AreBlanks, HasNoMarkBeforeTab, IsPlain, IsQuotedPlace, IsPlace, plain, in_quotes, ArePlaces, last, more, IsList, empty}
+use Rattle.ci_yaml_lines.specs.Line.{End, Keyed, Item, inner, value}
+use Rattle.ci_yaml_lines.specs.Comment.{nothing}
+use Rattle.ci_yaml_lines.specs.FlowList.{plain, in_quotes, more}
 use Rattle.ci_yaml_lines.specs.FlowList as flow
-use Rattle.ci_yaml_lines.specs.Tabs.{IsClear, unquoted, quoted}
+use Rattle.ci_yaml_lines.specs.Tabs.{quoted}
 use Rattle.ci_yaml_lines.proofs.Bools.{and_false}
 use Rattle.ci_yaml_lines.proofs.Comment.{cut-is, only-is}
 use Rattle.ci_yaml_lines.proofs.Quoting.{quoted-is}

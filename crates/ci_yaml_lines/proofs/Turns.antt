@@ -1,10 +1,8 @@
 -- One place after the other, and one dash after the other.
 use Rattle.std.proofs.Common.{◌≡◌, ℕ, suc, List, [], Option, refl, sym, ◌∙◌, ap}
-use Rattle.ci_yaml_lines.specs.declared.code.Code.{Code}
-use Rattle.ci_yaml_lines.specs.Tree.{Value, Members, no_members, member, push}
-use Rattle.ci_yaml_lines.specs.Least.{least, least_of}
-use Rattle.ci_yaml_lines.specs.Line.{place, Listed, with_place, after_place, places}
-use Rattle.ci_yaml_lines.specs.View.{joined, LeastPlace, least_place, LeastListed, least_listed, with_places}
+use Rattle.ci_yaml_lines.specs.Prelude.{Code, Value, Members, no_members, member, push, least, least_of, place, with_place, after_place, places, joined, LeastPlace, least_place}
+use Rattle.ci_yaml_lines.specs.Prelude.{LeastListed, least_listed, with_places}
+use Rattle.ci_yaml_lines.specs.Line.{Listed}
 use Rattle.ci_yaml_lines.proofs.Leasts.{least_append, least_of_three}
 
 joined-push : (ms : Members) (v : Value) (ns : Members) → joined (push ms [] v) ns ≡ joined ms (member [] v ns)

@@ -1,10 +1,10 @@
 -- A tree of the code, level by level, and lists that grow at their end.
 use Rattle.std.proofs.Common.{◌≡◌, ℤ, Bool, List, [], ◌∷◌, ◌++◌, refl, ap, rules}
 use Rattle.std.specs.Global.{Vec}
-use Rattle.ci_yaml_lines.specs.Tree.{sequence, mapping, null, boolean, number, text, node, member, push}
-use Rattle.ci_yaml_lines.specs.View.{bytes_of, value_view, items_view, pairs_view}
+use Rattle.ci_yaml_lines.specs.Prelude.{sequence, mapping, null, boolean, number, text, node, member, push, bytes_of, value_view, items_view, pairs_view, Tree, Null as NullTree}
+use Rattle.ci_yaml_lines.specs.Prelude.{Bool as BoolTree, Int as IntTree, List as ListTree, Map as MapTree, the_lemmas}
 use Rattle.ci_yaml_lines.specs.declared.tree.Text.{Text}
-use Rattle.ci_yaml_lines.specs.declared.tree.Tree.{Tree, Null as NullTree, Bool as BoolTree, Int as IntTree, List as ListTree, Map as MapTree, Text as TextTree, the_lemmas}
+use Rattle.ci_yaml_lines.specs.declared.tree.Tree.{Text as TextTree}
 
 pub view-List : (v : Vec Tree) → value_view (ListTree v) ≡ node sequence (items_view v.items)
 view-List v = search (rules, the_lemmas)

@@ -16,3 +16,4 @@ pub mod SpansFlow
 pub mod SpansOf
 pub mod SpansParsed
 pub mod View
+pub mod Prelude

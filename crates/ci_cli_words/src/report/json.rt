@@ -4,7 +4,7 @@ ghost use Rattle.std.specs.Prelude.{◌≡◌, false, [], ◌∷◌, IfOk, strin
 ghost use Rattle.serde_json.specs.Data.{Data};
 ghost use Rattle.serde_json.specs.View.{view};
 ghost use Rattle.serde_json.specs.Written.{has_float};
-ghost use Rattle.ci_machine.specs.Listings.{listed};
+ghost use Rattle.ci_machine.specs.Prelude.{listed};
 ghost use Rattle.ci_cli_words.specs.JsonText.{line_of, queued_data, queue_json, job_data, pipeline_data, pipeline_json, grant_data, runner_data, runner_json};
 
 use ci_machine::moment::{Moment, stamp_text};

@@ -5,7 +5,7 @@ ghost use Rattle.std.specs.Io.KnownBytes.{Appends};
 ghost use Rattle.std.specs.IoError.{error_kind};
 ghost use Rattle.std.specs.declared.io.Error.{Error};
 ghost use Rattle.std.specs.declared.io.ErrorKind.TheVariants.{Interrupted};
-ghost use Rattle.ci_values.specs.declared.limits.TheConstants.{MAX_FILE_BYTES};
+ghost use Rattle.ci_config.specs.Prelude.{MAX_FILE_BYTES};
 ghost use Rattle.ci_explain.specs.Verdicts.{Fits, TellsUnread, IsSaidOf, report_line};
 
 use crate::check::verdict::{Verdict, verdict_of};

@@ -1,12 +1,8 @@
 //! Laws of the definitions. These functions do nothing: what they ensure is what the checker proves.
 
 ghost use Rattle.std.specs.Prelude.{◌≡◌, ◌≢◌, ◌⊎◌, ℕ, List};
-ghost use Rattle.ci_yaml_lines.specs.Tree.{Value};
-ghost use Rattle.ci_yaml.specs.Document.{HasTree};
-ghost use Rattle.ci_expr.specs.declared.fault.ExprCode.TheVariants.{X8};
-ghost use Rattle.ci_config.specs.Fault.{K13};
-ghost use Rattle.ci_config.specs.FaultView.{code_view};
-ghost use Rattle.ci_config.specs.Laws.{LacksPatterns};
+ghost use Rattle.ci_config.specs.Prelude.{Value, X8, K13, code_view, LacksPatterns};
+ghost use Rattle.ci_yaml.specs.Prelude.{HasTree};
 ghost use Rattle.ci_config.specs.declared.fault.ConfigCode.{ConfigCode};
 ghost use Rattle.ci_config.specs.declared.fault.ConfigFault.TheVariants.{Fault};
 ghost use Rattle.ci_explain.specs.Verdicts.{Fits, report_line};

@@ -1,8 +1,7 @@
 //! What is said of bytes, and the exit status that goes with it.
 
 ghost use Rattle.std.specs.Prelude.{◌≡◌, ◌≢◌, ◌<◌, length, IfOk, OnErr};
-ghost use Rattle.ci_yaml_lines.specs.declared.code.Code.TheVariants.{Y1};
-ghost use Rattle.ci_yaml_lines.specs.TreeView.{value_view};
+ghost use Rattle.ci_config.specs.Prelude.{Y1, value_view};
 ghost use Rattle.ci_yaml.specs.declared.fault.YamlFault.TheVariants.{Fault};
 ghost use Rattle.ci_explain.specs.Verdicts.{Fits, FitsText, FitsTree, IsTooLong, status};
 ghost use Rattle.ci_explain.specs.declared.check.verdict.Verdict.TheVariants.{Refused, Unread};

@@ -1,9 +1,9 @@
 //! What a runner says of an attempt.
 
 ghost use Rattle.std.specs.Prelude.{◌≡◌, Some, IfOk, IfErr, option_map};
+ghost use Rattle.std.specs.Prelude.{codes};
 ghost use Rattle.serde_json.specs.Find.{get};
 ghost use Rattle.serde_json.specs.View.{view};
-ghost use Rattle.std.specs.Prelude.{codes};
 ghost use Rattle.ci_http_messages.specs.Json.{MayBeJson};
 ghost use Rattle.ci_http_messages.specs.Refusals.{IsWhyNot};
 ghost use Rattle.ci_http_messages.specs.Updates.{cause_named, exit_of, report_by, report_of, update_in};

@@ -1,7 +1,7 @@
 //! What is remembered of leases, kept right through changes of records.
 
 ghost use Rattle.std.specs.Prelude.{◌≡◌, ◌≢◌, ◌≤◌, ◌⊎◌, IfSome, IsTrue, Some};
-ghost use Rattle.ci_machine.specs.State.{State, applied, changed, with_record, without_record};
+ghost use Rattle.ci_machine_steps.specs.Prelude.{State, applied, changed, with_record, without_record};
 ghost use Rattle.ci_machine.specs.declared.change.Record.TheVariants as row;
 ghost use Rattle.ci_machine.specs.declared.change.Key.TheVariants as key;
 ghost use Rattle.ci_memory.specs.Quiet.{AreRightOf, IsQuiet};

@@ -1,7 +1,7 @@
 //! When the lease of an attempt is over.
 
 ghost use Rattle.std.specs.Prelude.{◌≡◌};
-ghost use Rattle.ci_machine.specs.Leases.{deadline};
+ghost use Rattle.ci_machine_steps.specs.Prelude.{deadline};
 
 use ci_machine::limits::LEASE_SECONDS;
 use ci_machine::records::Attempt;

@@ -1,10 +1,8 @@
 //! The first lease that is over: from what is remembered, or from what the store holds.
 
 ghost use Rattle.std.specs.Prelude.{◌≡◌, ◌++◌, ◌∷◌, [], All, IfOk, IfSome, map};
-ghost use Rattle.ci_machine.specs.Kept.{Kept};
-ghost use Rattle.ci_machine.specs.Leases.{first_due};
-ghost use Rattle.ci_machine.specs.Lookups.{lease_of, leases};
-ghost use Rattle.ci_store.specs.Store.{LoadsBy};
+ghost use Rattle.ci_machine_steps.specs.Prelude.{Kept, first_due, lease_of, leases};
+ghost use Rattle.ci_store.specs.Prelude.{LoadsBy};
 ghost use Rattle.ci_memory.specs.Quiet.{AreRight, IsWithin};
 
 use crate::leases::{Leases, Quiet};

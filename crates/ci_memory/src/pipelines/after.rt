@@ -1,13 +1,10 @@
 //! What is remembered still of the pipelines that aren't finished, after the changes of a commit.
 
-ghost use Rattle.std.specs.Prelude.{◌≡◌, ◌==◌, ◌++◌, not, ℕ, List, map, filter, IfOk, OnOk};
+ghost use Rattle.std.specs.Prelude.{◌≡◌, ◌==◌, ◌++◌, not, ℕ, List, map, filter, IfOk, OnOk, option_copied};
 ghost use Rattle.std.specs.List.{list_any};
-ghost use Rattle.std.specs.Option.{option_copied};
-ghost use Rattle.ci_machine.specs.declared.records.BoardRow.{BoardRow};
+ghost use Rattle.ci_machine_steps.specs.Prelude.{BoardRow, with_record, without_record, changed, applied, Kept, cleared, indexed, indexed_all, with_open, without_open, written};
 ghost use Rattle.ci_machine.specs.declared.change.Key.TheVariants as key;
 ghost use Rattle.ci_machine.specs.declared.change.Record.TheVariants as row;
-ghost use Rattle.ci_machine.specs.State.{with_record, without_record, changed, applied};
-ghost use Rattle.ci_machine.specs.Kept.{Kept, cleared, indexed, indexed_all, with_open, without_open, written};
 ghost use Rattle.ci_memory.specs.Alone.{Accounts, IsRight};
 ghost use Rattle.ci_memory.specs.Changes.{put_pipeline, removed_pipeline, is_unsettled};
 

@@ -2,9 +2,9 @@
 
 ghost use Rattle.std.specs.Prelude.{◌≡◌, ◌&&◌, ◌==◌};
 ghost use Rattle.std.specs.List.{list_any};
-ghost use Rattle.ci_machine.specs.Redundant.{is_bound_to};
-ghost use Rattle.ci_store.specs.Store.{LoadsBy};
-ghost use Rattle.ci_server_lookups.specs.Keeps.{IsKept};
+ghost use Rattle.ci_machine_steps.specs.Prelude.{is_bound_to};
+ghost use Rattle.ci_store.specs.Prelude.{LoadsBy};
+ghost use Rattle.ci_server_lookups.specs.Prelude.{IsKept};
 ghost use Rattle.ci_memory.specs.Redundant.{is_held_back};
 
 use ci_machine::records::{Attempt, Job, Pipeline};

@@ -1,8 +1,8 @@
 //! What is remembered of the pipelines that aren't finished.
 
 ghost use Rattle.std.specs.Prelude.{◌≡◌, map, IfOk};
-ghost use Rattle.ci_machine.specs.Kept.{Kept};
-ghost use Rattle.ci_server_lookups.specs.Unfinished.{AreOpen};
+ghost use Rattle.ci_machine_steps.specs.Prelude.{Kept};
+ghost use Rattle.ci_server_lookups.specs.Prelude.{AreOpen};
 ghost use Rattle.ci_memory.specs.Alone.{Accounts};
 
 use ci_machine::records::Pipeline;

@@ -1,11 +1,9 @@
 //! The pipeline that a newer one makes redundant, from what is remembered and what the store holds.
 
 ghost use Rattle.std.specs.Prelude.{◌≡◌, ℕ, List, [], ◌∷◌, IfOk};
-ghost use Rattle.ci_machine.specs.Kept.{Kept};
-ghost use Rattle.ci_machine.specs.Indexes.{redundant_in};
-ghost use Rattle.ci_store.specs.Store.{LoadsBy};
-ghost use Rattle.ci_server_lookups.specs.Keeps.{IsKept};
-ghost use Rattle.ci_server_lookups.specs.Unfinished.{AreOpen};
+ghost use Rattle.ci_machine_steps.specs.Prelude.{Kept, redundant_in};
+ghost use Rattle.ci_store.specs.Prelude.{LoadsBy};
+ghost use Rattle.ci_server_lookups.specs.Prelude.{IsKept, AreOpen};
 ghost use Rattle.ci_memory.specs.Alone.{Accounts, IsRight};
 ghost use Rattle.ci_memory.specs.Looks.{IsSeen, IsLooked};
 ghost use Rattle.ci_memory.specs.Redundant.{lesser};

@@ -1,6 +1,6 @@
 //! The jobs that wait as the store has them, to begin with: all of them are noted, and none is in a line yet.
 
-ghost use Rattle.ci_store.specs.Store.{LoadsBy};
+ghost use Rattle.ci_store.specs.Prelude.{LoadsBy};
 ghost use Rattle.ci_memory_queue.specs.LineCovers.{Covers};
 
 use crate::fill::note_with;

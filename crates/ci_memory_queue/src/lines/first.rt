@@ -1,8 +1,8 @@
 //! The job that goes first in a line.
 
 ghost use Rattle.std.specs.Prelude.{◌≡◌, ◌≢◌, ◌<◌, ℕ, length, Contains, IfSome, IfNone};
-ghost use Rattle.ci_machine.specs.declared.records.GroupOrder.{GroupOrder};
-ghost use Rattle.ci_store.specs.Store.{LoadsBy};
+ghost use Rattle.ci_machine_steps.specs.Prelude.{GroupOrder};
+ghost use Rattle.ci_store.specs.Prelude.{LoadsBy};
 ghost use Rattle.ci_memory_queue.specs.LineCovers.{jobs_in};
 ghost use Rattle.ci_memory_queue.specs.First.{IsInGroup, IsFoundAt, GoesFirst, IsFirst};
 

@@ -1,7 +1,7 @@
 //! Where a job stands, and whether it waits for its turn.
 
 ghost use Rattle.std.specs.Prelude.{◌≡◌, IsTrue, false, Some};
-ghost use Rattle.ci_store.specs.Store.{LoadsBy};
+ghost use Rattle.ci_store.specs.Prelude.{LoadsBy};
 ghost use Rattle.ci_memory_queue.specs.Places.{counts_as, counts, place_at};
 
 use crate::lines::Place;

@@ -1,12 +1,9 @@
 //! Whose turn it is in a resource group with an order, by what is remembered of the jobs that wait for it.
 
 ghost use Rattle.std.specs.Prelude.{◌≡◌, ◌≤◌, ℕ, true, [], Bool, List, OnOk};
-ghost use Rattle.ci_machine.specs.declared.records.GroupOrder.TheVariants.{OldestFirst};
-ghost use Rattle.ci_machine.specs.Kept.{Kept};
-ghost use Rattle.ci_machine.specs.Waiting.{waiting};
-ghost use Rattle.ci_store.specs.Store.{LoadsBy};
-ghost use Rattle.ci_server_lookups.specs.Keeps.{IsKept};
-ghost use Rattle.ci_server_lookups.specs.Turns.{IsTurn};
+ghost use Rattle.ci_machine_steps.specs.Prelude.{OldestFirst, Kept, waiting};
+ghost use Rattle.ci_store.specs.Prelude.{LoadsBy};
+ghost use Rattle.ci_server_lookups.specs.Prelude.{IsKept, IsTurn};
 ghost use Rattle.ci_memory_queue.specs.Places.{counts_at};
 ghost use Rattle.ci_memory_queue.specs.LineCovers.{line_of, jobs_of, IsInLine, IsInTurn, IsSorted, Covers, IsRight, KeepsWaiting};
 ghost use Rattle.ci_memory_queue.specs.First.{IsFirst};

@@ -1,17 +1,9 @@
 //! A pipeline with its jobs, as a report tells them.
 
 ghost use Rattle.std.specs.Prelude.{◌≡◌, ◌++◌, List, ℕ, length, map, IfOk, IfErr};
-ghost use Rattle.ci_machine.specs.declared.records.BoardRow.{BoardRow};
-ghost use Rattle.ci_machine.specs.Groups.{held_claim};
-ghost use Rattle.ci_machine.specs.Indexes.{with_status};
-ghost use Rattle.ci_machine.specs.Kept.{Kept};
-ghost use Rattle.ci_machine.specs.Lookups.{pipeline_at};
-ghost use Rattle.ci_machine.specs.ReportRows.{job_rows};
-ghost use Rattle.ci_machine.specs.Statuses.{facts_of, rows_of, row_for};
-ghost use Rattle.ci_store.specs.declared.fault.StoreFault.TheVariants.{Memory};
-ghost use Rattle.ci_store.specs.Store.{LoadsBy};
-ghost use Rattle.ci_server_lookups.specs.Keeps.{IsKept};
-ghost use Rattle.ci_server_lookups.specs.Records.{AreOf, IsWhole};
+ghost use Rattle.ci_machine_steps.specs.Prelude.{BoardRow, held_claim, with_status, Kept, pipeline_at, job_rows, facts_of, rows_of, row_for};
+ghost use Rattle.ci_server_lookups.specs.Prelude.{Memory, IsKept, AreOf, IsWhole};
+ghost use Rattle.ci_store.specs.Prelude.{LoadsBy};
 ghost use Rattle.ci_server_events.specs.Told.{job_told, TellsPipeline};
 
 use ci_board::facts::{Facts, Row};

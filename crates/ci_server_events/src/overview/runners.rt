@@ -1,9 +1,8 @@
 //! The runners, as a report tells them.
 
 ghost use Rattle.std.specs.Prelude.{◌≡◌, ◌==◌, length, filter, count_by, take, map};
-ghost use Rattle.ci_machine.specs.Lookups.{live_attempts};
-ghost use Rattle.ci_machine.specs.ReportRows.{runner_row, runner_rows};
-ghost use Rattle.ci_store.specs.Store.{LoadsBy};
+ghost use Rattle.ci_machine_steps.specs.Prelude.{live_attempts, runner_row, runner_rows};
+ghost use Rattle.ci_store.specs.Prelude.{LoadsBy};
 
 use ci_machine::records::{Attempt, Runner};
 use ci_machine::report::RunnerRow;

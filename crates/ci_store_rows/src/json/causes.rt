@@ -3,8 +3,7 @@
 ghost use Rattle.std.specs.Prelude.{◌≡◌, map, codes, IfOk};
 ghost use Rattle.std.specs.List.{list_any};
 ghost use Rattle.serde_json.specs.View.{view};
-ghost use Rattle.ci_values.specs.declared.when.Causes.{Causes};
-ghost use Rattle.ci_values.specs.declared.when.Retry.{Retry};
+ghost use Rattle.ci_machine.specs.Prelude.{Causes, Retry};
 ghost use Rattle.ci_store_rows.specs.JsonText.{cause_text, causes_data, retry_data};
 ghost use Rattle.ci_store_rows.specs.Reads.{is_text};
 

@@ -3,7 +3,7 @@
 ghost use Rattle.std.specs.Prelude.{◌≡◌, IfOk, OnOk, Some, string_bytes};
 ghost use Rattle.serde_json.specs.Read.{read};
 ghost use Rattle.serde_json.specs.View.{view};
-ghost use Rattle.ci_machine.specs.declared.records.JobOptions.{JobOptions};
+ghost use Rattle.ci_store.specs.Prelude.{JobOptions};
 ghost use Rattle.ci_store_rows.specs.Reads.{ReadsSpec, ReadsDemand};
 ghost use Rattle.ci_store_rows.specs.JsonText.{group_data, spec_data, spec_text};
 

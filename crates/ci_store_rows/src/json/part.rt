@@ -3,7 +3,7 @@
 ghost use Rattle.std.specs.Prelude.{◌≡◌, IfOk, IfSome};
 ghost use Rattle.serde_json.specs.Data.{string};
 ghost use Rattle.serde_json.specs.View.{view};
-ghost use Rattle.ci_machine.specs.declared.records.JobOptions.{JobOptions};
+ghost use Rattle.ci_store.specs.Prelude.{JobOptions};
 ghost use Rattle.ci_store_rows.specs.JsonText.{when_text, allow_data, spec_data};
 
 use crate::json::causes::retry_of;

@@ -1,7 +1,7 @@
 //! Tests of positions, by which callers know that they may call.
 
 ghost use Rattle.std.specs.Prelude.{◌<◌, All, length, IsTrue};
-ghost use Rattle.ci_graph.specs.Pairs.{AreWithin};
+ghost use Rattle.ci_machine.specs.Prelude.{AreWithin};
 
 use ci_board::facts::FactsChange;
 

@@ -1,4 +1,4 @@
-ghost use Rattle.ci_http_messages.specs.Blanks.{OpensWhole};
+ghost use Rattle.ci_http_messages.specs.Prelude.{OpensWhole};
 
 use ci_http_messages::call::{HeadRoom, read_request};
 use ci_http_messages::fault::HttpFault;

@@ -57,7 +57,7 @@ const BROKEN: &[(&str, Load)] = &[
     ("UPDATE board SET barred = -1", Load::Row(1)),
     (
         "UPDATE board SET status = 1, open = -1",
-        Load::PendingAfter(0),
+        Load::RowsWith(Status::Pending),
     ),
     (
         "UPDATE board SET status = 7, open = -1",

@@ -126,7 +126,6 @@ pub enum Load {
     Row(u64),
     RowsWithin(u64, u64),
     RowsWith(Status),
-    PendingAfter(u64),
     Holder(u64, &'static str),
 }
 
@@ -153,7 +152,6 @@ fn shown_of_runs<S: Alter>(
         Load::Row(job) => Answer::of_one(alloc, tables.row(job)),
         Load::RowsWithin(first, last) => Answer::of_all(alloc, tables.rows_within(first, last)),
         Load::RowsWith(status) => Answer::of_all(alloc, tables.rows_with(status)),
-        Load::PendingAfter(job) => Answer::of_all(alloc, tables.pending_after(job)),
         Load::Holder(project, group) => {
             Answer::of_one(alloc, tables.holder(project, &text(alloc, group)?))
         }

@@ -372,24 +372,12 @@ fn push_rows(work: &mut Work) -> Result<(), Fail> {
 
 const OF_FIFTY: &[Step] = &[
     Step::Finds(
-        Load::PendingAfter(0),
-        &[1, 2, 3, 4, 6, 7, 8, 9, 11, 12, 13, 14, 16, 17, 18, 19],
-    ),
-    Step::Finds(
-        Load::PendingAfter(19),
+        Load::RowsWith(Status::Pending),
         &[
-            21, 22, 23, 24, 26, 27, 28, 29, 31, 32, 33, 34, 36, 37, 38, 39,
+            1, 2, 3, 4, 6, 7, 8, 9, 11, 12, 13, 14, 16, 17, 18, 19, 21, 22, 23, 24, 26, 27, 28, 29,
+            31, 32, 33, 34, 36, 37, 38, 39, 41, 42, 43, 44, 46, 47, 48, 49,
         ],
     ),
-    Step::Finds(
-        Load::PendingAfter(20),
-        &[
-            21, 22, 23, 24, 26, 27, 28, 29, 31, 32, 33, 34, 36, 37, 38, 39,
-        ],
-    ),
-    Step::Finds(Load::PendingAfter(39), &[41, 42, 43, 44, 46, 47, 48, 49]),
-    Step::Shows(Load::PendingAfter(48), "49 pending 2 1 3"),
-    Step::Shows(Load::PendingAfter(49), ""),
     Step::Finds(
         Load::RowsWith(Status::Created),
         &[5, 10, 15, 20, 25, 30, 35, 40, 45, 50],
@@ -415,7 +403,7 @@ const OF_FIFTY: &[Step] = &[
 ];
 
 #[test]
-fn rows_come_page_by_page_and_by_ranges_of_jobs(rt: HostRuntime) -> Result<(), Fail> {
+fn rows_come_by_status_and_by_ranges_of_jobs(rt: HostRuntime) -> Result<(), Fail> {
     let alloc = rt.alloc();
     let mut fifty = Work::nothing(alloc);
     push_jobs(alloc, &mut fifty)?;

@@ -1,6 +1,5 @@
 use Rattle.std.proofs.Common.{refl, sym, ap, ◌∙◌, List}
-use Rattle.ci_board.specs.declared.facts.Row.{Row}
-use Rattle.ci_board.specs.Rows.{is_touched, differing}
+use Rattle.ci_board.specs.Prelude.{Row, is_touched, differing}
 use Rattle.ci_board.proofs.Answered.{touched_facts, touched_status}
 use Rattle.ci_board.proofs.Assignments.{rows_moved}
 use Rattle.ci_board.proofs.changes.change.Goals as goal

@@ -1,6 +1,6 @@
 use Rattle.std.proofs.Common.{◌≡◌, arith}
 use Rattle.std.proofs.lemmas.Grind.{common_steps}
-use Rattle.ci_board.specs.Rows.{differing}
+use Rattle.ci_board.specs.Prelude.{differing}
 use Rattle.ci_board.proofs.Exact.{answer_of}
 use Rattle.ci_board.proofs.changes.fill.Goals as goal
 

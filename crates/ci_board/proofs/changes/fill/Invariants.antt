@@ -1,6 +1,5 @@
-use Rattle.std.proofs.Common.{◌≡◌, ◌≤◌, ◌++◌, length, drop}
-use Rattle.std.specs.Prelude.{vec_len, vec_capacity}
-use Rattle.ci_board.specs.Rows.{differing}
+use Rattle.std.proofs.Common.{◌≡◌, ◌≤◌, ◌++◌, length, drop, vec_len, vec_capacity}
+use Rattle.ci_board.specs.Prelude.{differing}
 use Rattle.ci_board.proofs.changes.fill.Given as goal
 
 abbrev pub invariant-loop-j : goal.invariant-loop-j

@@ -1,5 +1,5 @@
 use Rattle.std.proofs.Common.{◌≡◌, drop}
-use Rattle.ci_board.specs.Rows.{replaced}
+use Rattle.ci_board.specs.Prelude.{replaced}
 use Rattle.ci_board.proofs.changes.replace.Given as goal
 
 abbrev pub invariant-loop-i : goal.invariant-loop-i

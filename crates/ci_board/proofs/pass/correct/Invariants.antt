@@ -1,6 +1,5 @@
 use Rattle.std.proofs.Common.{◌≡◌, ◌+◌, drop}
-use Rattle.ci_graph.specs.JobGraph.{successors_of}
-use Rattle.ci_board.specs.Pass.{corrected}
+use Rattle.ci_board.specs.Prelude.{successors_of, corrected}
 use Rattle.ci_board.proofs.pass.correct.Given as goal
 
 abbrev pub invariant-loop-k : goal.invariant-loop-k

@@ -1,5 +1,5 @@
 use Rattle.std.proofs.Common.{◌≡◌, drop}
-use Rattle.ci_board.specs.Pass.{passed}
+use Rattle.ci_board.specs.Prelude.{passed}
 use Rattle.ci_board.proofs.pass.pass.Given as goal
 
 abbrev pub invariant-loop-i : goal.invariant-loop-i

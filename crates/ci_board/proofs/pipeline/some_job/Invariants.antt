@@ -1,8 +1,5 @@
 use Rattle.std.proofs.Common.{◌≡◌}
-use Rattle.ci_graph.specs.JobGraph.{part_of}
-use Rattle.ci_board.specs.Rows.{facts_at, row_at}
-use Rattle.ci_board.specs.PipelineStatus.{some_job}
-use Rattle.ci_board.specs.PipelineStatus.{answers_yes}
+use Rattle.ci_board.specs.Prelude.{part_of, facts_at, row_at, some_job, answers_yes}
 use Rattle.ci_board.proofs.pipeline.some_job.Given as goal
 
 abbrev pub invariant-loop-j : goal.invariant-loop-j

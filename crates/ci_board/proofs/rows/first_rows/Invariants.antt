@@ -1,5 +1,5 @@
 use Rattle.std.proofs.Common.{◌≡◌, ◌++◌, drop, map}
-use Rattle.ci_board.specs.Pass.{first_row}
+use Rattle.ci_board.specs.Prelude.{first_row}
 use Rattle.ci_board.proofs.rows.first_rows.Given as goal
 
 abbrev pub invariant-loop-j : goal.invariant-loop-j

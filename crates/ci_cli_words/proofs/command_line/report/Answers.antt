@@ -1,6 +1,6 @@
 use Rattle.std.proofs.Common.{◌≡◌, ◌∙◌, [], ◌∷◌, ap, codes}
 use Rattle.std.proofs.lemmas.Result.{IfOk-weaker}
-use Rattle.ci_values.specs.declared.limits.TheConstants.{MAX_NUMBER}
+use Rattle.ci_machine.specs.Prelude.{MAX_NUMBER}
 use Rattle.clap.specs.Walk.{rule_of}
 use Rattle.clap.specs.declared.builder.arg.Arg.{Arg}
 use Rattle.ci_cli_words.specs.CommandLine.{command, db, flag, named, number, option, required}

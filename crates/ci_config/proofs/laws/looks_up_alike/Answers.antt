@@ -1,8 +1,6 @@
 use Rattle.std.proofs.Common.{◌≡◌, ℕ, List, [], ◌∷◌, Option, Some, None, refl, ap, ◌∙◌, if◌then◌else◌}
 use Rattle.std.specs.Str.{bytes_eq}
-use Rattle.ci_values.specs.Layers.{Variables, or_else}
-use Rattle.ci_values.specs.Table.{meaning_of}
-use Rattle.ci_expr.specs.Truth.{value_of}
+use Rattle.ci_config.specs.Prelude.{Variables, or_else, meaning_of, value_of}
 use Rattle.ci_config.proofs.laws.looks_up_alike.Goals as goal
 
 same : (vs : Variables) (name : List ℕ) → value_of vs name ≡ meaning_of vs name

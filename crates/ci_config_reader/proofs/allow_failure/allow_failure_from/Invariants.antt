@@ -1,8 +1,5 @@
-use Rattle.std.proofs.Common.{◌≡◌, None, drop}
-use Rattle.std.specs.Prelude.{option_map}
-use Rattle.ci_config.specs.Reading.{entries}
-use Rattle.ci_config.specs.AllowFailures.{allow_failure_entry}
-use Rattle.ci_config.specs.View.{pairs_view, codes_view}
+use Rattle.std.proofs.Common.{◌≡◌, None, drop, option_map}
+use Rattle.ci_config.specs.Prelude.{entries, allow_failure_entry, pairs_view, codes_view}
 use Rattle.ci_config_reader.proofs.allow_failure.allow_failure_from.Given as goal
 
 abbrev pub invariant-loop-before : goal.invariant-loop-before

@@ -1,7 +1,5 @@
 use Rattle.std.proofs.Common.{◌≡◌, [], drop}
-use Rattle.ci_config.specs.Reading.{each}
-use Rattle.ci_config.specs.AllowFailures.{exit_code_in}
-use Rattle.ci_config.specs.View.{values_view, codes_view}
+use Rattle.ci_config.specs.Prelude.{each, exit_code_in, values_view, codes_view}
 use Rattle.ci_config_reader.proofs.allow_failure.exit_codes_of.Given as goal
 
 abbrev pub invariant-loop-value : goal.invariant-loop-value

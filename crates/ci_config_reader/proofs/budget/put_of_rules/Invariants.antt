@@ -1,6 +1,5 @@
-use Rattle.ci_expr.specs.Built.{patterns_view, same_pattern}
+use Rattle.ci_config.specs.Prelude.{patterns_view, same_pattern, rule_patterns}
 use Rattle.ci_expr.proofs.Gathering.{Gathered}
-use Rattle.ci_config.specs.Budget.{rule_patterns}
 use Rattle.ci_config_reader.proofs.budget.put_of_rules.Given as goal
 
 abbrev pub invariant-loop-rule : goal.invariant-loop-rule

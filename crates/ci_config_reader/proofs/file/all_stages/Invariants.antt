@@ -1,8 +1,5 @@
-use Rattle.std.proofs.Common.{◌≡◌, ◌∷◌, ◌++◌, drop}
-use Rattle.std.specs.Prelude.{filter}
-use Rattle.ci_values.specs.Table.{words_view}
-use Rattle.ci_config.specs.Meaning.{pre, is_inner}
-use Rattle.ci_config.specs.View.{texts_view}
+use Rattle.std.proofs.Common.{◌≡◌, ◌∷◌, ◌++◌, drop, filter}
+use Rattle.ci_config.specs.Prelude.{words_view, pre, is_inner, texts_view}
 use Rattle.ci_config_reader.proofs.file.all_stages.Given as goal
 
 abbrev pub invariant-loop-stage : goal.invariant-loop-stage

@@ -1,6 +1,4 @@
-use Rattle.ci_config.specs.Files.{file_from}
-use Rattle.ci_config.specs.Meaning.{config_of, judged}
-use Rattle.ci_config.specs.View.{pairs_view, config_view}
+use Rattle.ci_config.specs.Prelude.{file_from, config_of, judged, pairs_view, config_view}
 use Rattle.ci_config_reader.specs.Parts.{file_parts_view}
 use Rattle.ci_config.proofs.Owns.{own-judged}
 use Rattle.ci_config_reader.proofs.Telling.{then-read}

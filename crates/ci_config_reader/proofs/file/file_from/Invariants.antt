@@ -1,6 +1,5 @@
 use Rattle.std.proofs.Common.{drop}
-use Rattle.ci_config.specs.Files.{file_entry, file_from}
-use Rattle.ci_config.specs.View.{pairs_view}
+use Rattle.ci_config.specs.Prelude.{file_entry, file_from, pairs_view}
 use Rattle.ci_config_reader.specs.Parts.{file_parts_view}
 use Rattle.ci_config_reader.proofs.Telling.{Leads, entries_by}
 use Rattle.ci_config_reader.proofs.file.file_from.Given as goal

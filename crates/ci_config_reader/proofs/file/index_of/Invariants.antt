@@ -1,6 +1,5 @@
 use Rattle.std.proofs.Common.{◌≡◌, ◌+◌, drop}
-use Rattle.ci_config.specs.Meaning.{index_of}
-use Rattle.ci_config.specs.View.{pairs_view}
+use Rattle.ci_config.specs.Prelude.{index_of, pairs_view}
 use Rattle.ci_config_reader.proofs.file.index_of.Given as goal
 
 abbrev pub invariant-loop-before : goal.invariant-loop-before

@@ -1,6 +1,5 @@
 use Rattle.std.proofs.Common.{◌≡◌, drop}
-use Rattle.ci_values.specs.Table.{words_view}
-use Rattle.ci_config.specs.Files.{is_among}
+use Rattle.ci_config.specs.Prelude.{words_view, is_among}
 use Rattle.ci_config_reader.proofs.file.is_among.Given as goal
 
 abbrev pub invariant-loop-other : goal.invariant-loop-other

@@ -1,11 +1,5 @@
 use Rattle.std.proofs.Common.{◌+◌, ℕ, Result, [], ◌∷◌, drop, map, sym, ◌∙◌, ap}
-use Rattle.ci_values.specs.Table.{words_view}
-use Rattle.ci_config.specs.Config.{Config}
-use Rattle.ci_config.specs.Fault.{Placed}
-use Rattle.ci_config.specs.FaultView.{code_view}
-use Rattle.ci_config.specs.Meaning.{index_of, jobs_judged}
-use Rattle.ci_config.specs.Reading.{fails_at}
-use Rattle.ci_config.specs.View.{pairs_view, job_view}
+use Rattle.ci_config.specs.Prelude.{words_view, Config, Placed, code_view, index_of, jobs_judged, fails_at, pairs_view, job_view}
 use Rattle.ci_config_reader.proofs.Trees.{next-job}
 use Rattle.ci_config_reader.proofs.file.jobs_fault.Goals as goal
 

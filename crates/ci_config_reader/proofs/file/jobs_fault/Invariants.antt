@@ -1,9 +1,5 @@
 use Rattle.std.proofs.Common.{◌≡◌, Result, drop, map}
-use Rattle.ci_values.specs.Table.{words_view}
-use Rattle.ci_config.specs.Config.{Config}
-use Rattle.ci_config.specs.Fault.{Placed}
-use Rattle.ci_config.specs.Meaning.{jobs_judged}
-use Rattle.ci_config.specs.View.{pairs_view, job_view}
+use Rattle.ci_config.specs.Prelude.{words_view, Config, Placed, jobs_judged, pairs_view, job_view}
 use Rattle.ci_config_reader.proofs.file.jobs_fault.Given as goal
 
 abbrev pub invariant-loop-job : goal.invariant-loop-job

@@ -1,7 +1,5 @@
 use Rattle.std.proofs.Common.{◌≡◌, [], drop}
-use Rattle.ci_config.specs.Reading.{each}
-use Rattle.ci_config.specs.Files.{stage_in}
-use Rattle.ci_config.specs.View.{values_view, texts_view}
+use Rattle.ci_config.specs.Prelude.{each, stage_in, values_view, texts_view}
 use Rattle.ci_config_reader.proofs.file.stages_of.Given as goal
 
 abbrev pub invariant-loop-value : goal.invariant-loop-value

@@ -1,7 +1,5 @@
 use Rattle.std.proofs.Common.{◌+◌, drop, ap, subst}
-use Rattle.ci_yaml_lines.specs.TreeView.{value_view}
-use Rattle.ci_config.specs.Jobs.{job_entry, job_from}
-use Rattle.ci_config.specs.View.{pair_view, pairs_view, job_view}
+use Rattle.ci_config.specs.Prelude.{value_view, job_entry, job_from, pair_view, pairs_view, job_view}
 use Rattle.ci_config_reader.specs.Answer.{builds_with}
 use Rattle.ci_config_reader.proofs.Telling.{Fails, entries_by, map-next, map-fails}
 use Rattle.ci_config_reader.proofs.Trees.{step}

@@ -1,6 +1,5 @@
 use Rattle.std.proofs.Common.{drop}
-use Rattle.ci_config.specs.Jobs.{job_entry, job_from}
-use Rattle.ci_config.specs.View.{pairs_view, job_view}
+use Rattle.ci_config.specs.Prelude.{job_entry, job_from, pairs_view, job_view}
 use Rattle.ci_config_reader.proofs.Telling.{Leads, entries_by}
 use Rattle.ci_config_reader.proofs.job.job_from.Given as goal
 

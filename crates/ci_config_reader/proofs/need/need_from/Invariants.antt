@@ -1,7 +1,5 @@
 use Rattle.std.proofs.Common.{◌≡◌, drop}
-use Rattle.ci_config.specs.Reading.{entries}
-use Rattle.ci_config.specs.Needs.{need_entry, blank_need}
-use Rattle.ci_config.specs.View.{pairs_view}
+use Rattle.ci_config.specs.Prelude.{entries, need_entry, blank_need, pairs_view}
 use Rattle.ci_config_reader.specs.Parts.{need_parts_view}
 use Rattle.ci_config_reader.proofs.need.need_from.Given as goal
 

@@ -1,7 +1,5 @@
 use Rattle.std.proofs.Common.{◌≡◌, [], drop}
-use Rattle.ci_config.specs.Reading.{each}
-use Rattle.ci_config.specs.Needs.{need_of}
-use Rattle.ci_config.specs.View.{values_view, needs_view}
+use Rattle.ci_config.specs.Prelude.{each, need_of, values_view, needs_view}
 use Rattle.ci_config_reader.proofs.need.needs_of.Given as goal
 
 abbrev pub invariant-loop-value : goal.invariant-loop-value

@@ -1,7 +1,5 @@
 use Rattle.std.proofs.Common.{◌≡◌, drop}
-use Rattle.ci_config.specs.Reading.{entries}
-use Rattle.ci_config.specs.Retries.{no_causes, cause_in}
-use Rattle.ci_config.specs.View.{values_view}
+use Rattle.ci_config.specs.Prelude.{entries, no_causes, cause_in, values_view}
 use Rattle.ci_config_reader.proofs.retry.causes_of.Given as goal
 
 abbrev pub invariant-loop-before : goal.invariant-loop-before

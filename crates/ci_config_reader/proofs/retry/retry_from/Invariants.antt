@@ -1,7 +1,5 @@
 use Rattle.std.proofs.Common.{◌≡◌, drop}
-use Rattle.ci_config.specs.Reading.{entries}
-use Rattle.ci_config.specs.Retries.{retry_entry, blank_retry}
-use Rattle.ci_config.specs.View.{pairs_view}
+use Rattle.ci_config.specs.Prelude.{entries, retry_entry, blank_retry, pairs_view}
 use Rattle.ci_config_reader.specs.Parts.{retry_parts_view}
 use Rattle.ci_config_reader.proofs.retry.retry_from.Given as goal
 

@@ -1,8 +1,5 @@
 use Rattle.std.proofs.Common.{Err, subst}
-use Rattle.ci_expr.specs.Built.{formula_of}
-use Rattle.ci_expr.specs.Meaning.{Allows}
-use Rattle.ci_expr.specs.declared.fault.ExprFault.{ExprFault}
-use Rattle.ci_expr.specs.Computed.{expression_of}
+use Rattle.ci_config.specs.Prelude.{formula_of, Allows, ExprFault, expression_of}
 use Rattle.ci_config_reader.proofs.Conditions.{condition-found, condition-stops}
 use Rattle.ci_config_reader.proofs.rule.condition_of.Goals as goal
 

@@ -1,6 +1,5 @@
 use Rattle.std.proofs.Common.{◌+◌, drop}
-use Rattle.ci_config.specs.Rules.{rule_entry, rule_from}
-use Rattle.ci_config.specs.View.{pair_view, pairs_view, rule_view}
+use Rattle.ci_config.specs.Prelude.{rule_entry, rule_from, pair_view, pairs_view, rule_view}
 use Rattle.ci_config_reader.proofs.Telling.{map-next}
 use Rattle.ci_config_reader.proofs.Trees.{step}
 use Rattle.ci_config_reader.proofs.rule.rule_from.Goals as goal

@@ -1,6 +1,5 @@
 use Rattle.std.proofs.Common.{drop}
-use Rattle.ci_config.specs.Rules.{rule_entry, rule_from}
-use Rattle.ci_config.specs.View.{pairs_view, rule_view}
+use Rattle.ci_config.specs.Prelude.{rule_entry, rule_from, pairs_view, rule_view}
 use Rattle.ci_config_reader.proofs.Telling.{Leads, entries_by}
 use Rattle.ci_config_reader.proofs.rule.rule_from.Given as goal
 

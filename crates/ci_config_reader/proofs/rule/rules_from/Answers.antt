@@ -1,8 +1,5 @@
 use Rattle.std.proofs.Common.{◌+◌, drop, sym, subst}
-use Rattle.ci_yaml_lines.specs.TreeView.{value_view}
-use Rattle.ci_config.specs.FaultView.{IsWithin}
-use Rattle.ci_config.specs.Rules.{rule_of, rules_from}
-use Rattle.ci_config.specs.View.{values_view, rule_view, rules_view}
+use Rattle.ci_config.specs.Prelude.{value_view, IsWithin, rule_of, rules_from, values_view, rule_view, rules_view}
 use Rattle.ci_config_reader.proofs.Telling.{list-fails}
 use Rattle.ci_config_reader.proofs.Trees.{step, count-is}
 use Rattle.ci_config_reader.proofs.rule.rules_from.Goals as goal

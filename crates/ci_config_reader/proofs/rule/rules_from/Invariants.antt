@@ -1,6 +1,5 @@
 use Rattle.std.proofs.Common.{length, drop}
-use Rattle.ci_config.specs.Rules.{rule_of, rules_from}
-use Rattle.ci_config.specs.View.{values_view, rules_view}
+use Rattle.ci_config.specs.Prelude.{rule_of, rules_from, values_view, rules_view}
 use Rattle.ci_config_reader.proofs.Telling.{Leads, listed}
 use Rattle.ci_config_reader.proofs.rule.rules_from.Given as goal
 

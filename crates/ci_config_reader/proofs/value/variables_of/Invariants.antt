@@ -1,7 +1,5 @@
 use Rattle.std.proofs.Common.{◌≡◌, [], drop}
-use Rattle.ci_config.specs.Reading.{each}
-use Rattle.ci_config.specs.Values.{variable_in}
-use Rattle.ci_config.specs.View.{pairs_view, variables_view}
+use Rattle.ci_config.specs.Prelude.{each, variable_in, pairs_view, variables_view}
 use Rattle.ci_config_reader.proofs.value.variables_of.Given as goal
 
 abbrev pub invariant-loop-pair : goal.invariant-loop-pair

@@ -1,5 +1,5 @@
 use Rattle.std.proofs.Common.{◌≡◌, drop}
-use Rattle.ci_values.specs.Table.{words_view}
+use Rattle.ci_config.specs.Prelude.{words_view}
 use Rattle.ci_explain.specs.Gitlab.{begins_with_one}
 use Rattle.ci_explain.proofs.gitlab.begins_with_one.Given as goal
 

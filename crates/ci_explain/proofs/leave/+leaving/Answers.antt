@@ -1,6 +1,6 @@
-use Rattle.std.proofs.Common.{◌∙◌, arith, ap}
-use Rattle.std.specs.Prelude.{insert}
-use Rattle.ci_yaml_lines.specs.TreeView.{value_view, items_view, pairs_view}
+use Rattle.std.proofs.Common.{◌∙◌, arith, ap, insert}
+use Rattle.ci_config.specs.Prelude.{value_view, items_view}
+use Rattle.ci_yaml.specs.Prelude.{pairs_view}
 use Rattle.ci_explain.specs.Told.{without}
 use Rattle.ci_explain.proofs.Leaving.{items-few, pairs-few, items-out, pairs-out, items-in, pairs-in}
 use Rattle.ci_explain.proofs.leave.+leaving.Goals as goal

@@ -1,4 +1,4 @@
-use Rattle.ci_config.specs.View.{config_view}
+use Rattle.ci_config.specs.Prelude.{config_view}
 use Rattle.ci_explain.proofs.turn.first_fault.Goals as goal
 
 pub returns-in-Ok : goal.returns-in-Ok

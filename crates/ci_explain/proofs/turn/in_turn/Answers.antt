@@ -1,6 +1,5 @@
-use Rattle.std.proofs.Common.{◌≡◌, ◌∙◌, length, ap, subst}
-use Rattle.std.specs.Prelude.{true, false, ◌==◌}
-use Rattle.ci_yaml_lines.specs.TreeView.{value_view}
+use Rattle.std.proofs.Common.{◌≡◌, ◌∙◌, length, ap, subst, true, false, ◌==◌}
+use Rattle.ci_config.specs.Prelude.{value_view}
 use Rattle.ci_explain.specs.Told.{IsFirst, fault_view, without}
 use Rattle.ci_explain.proofs.Turns.{is-empty, goes-on, ends-with, ends-well}
 use Rattle.ci_explain.proofs.turn.in_turn.Goals as goal

@@ -1,4 +1,4 @@
-use Rattle.ci_yaml_lines.specs.TreeView.{value_view}
+use Rattle.ci_config.specs.Prelude.{value_view}
 use Rattle.ci_explain.proofs.Turns.{Goes}
 use Rattle.ci_explain.proofs.turn.in_turn.Given as goal
 

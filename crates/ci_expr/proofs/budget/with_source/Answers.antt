@@ -1,5 +1,5 @@
 use Rattle.std.proofs.Common.{sym, subst}
-use Rattle.ci_expr.specs.Found.{HasTables}
+use Rattle.ci_expr.specs.Prelude.{HasTables}
 use Rattle.ci_expr.proofs.budget.with_source.Goals as goal
 
 pub invariant_of-result : goal.invariant_of-result

@@ -1,5 +1,5 @@
 use Rattle.std.proofs.Common.{◌≡◌, ◌+◌, ◌≤◌, drop}
-use Rattle.ci_expr.specs.Budget.{class_marks}
+use Rattle.ci_expr.specs.Prelude.{class_marks}
 use Rattle.ci_expr.proofs.cost.class_marks.Given as goal
 
 abbrev pub invariant-loop-byte : goal.invariant-loop-byte

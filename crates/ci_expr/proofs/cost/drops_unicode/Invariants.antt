@@ -1,5 +1,5 @@
 use Rattle.std.proofs.Common.{◌≡◌, length}
-use Rattle.ci_expr.specs.Budget.{drops_unicode}
+use Rattle.ci_expr.specs.Prelude.{drops_unicode}
 use Rattle.ci_expr.proofs.cost.drops_unicode.Given as goal
 
 abbrev pub invariant-loop-rest : goal.invariant-loop-rest

@@ -1,4 +1,4 @@
-use Rattle.ci_expr.specs.Built.{look_view, look_cost}
+use Rattle.ci_expr.specs.Prelude.{look_view, look_cost}
 use Rattle.ci_expr.proofs.Budgets.{Paid}
 use Rattle.ci_expr.proofs.cost.left_by_looks.Given as goal
 

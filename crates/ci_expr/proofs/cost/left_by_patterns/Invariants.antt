@@ -1,4 +1,4 @@
-use Rattle.ci_expr.specs.Built.{pattern_view, cost_of}
+use Rattle.ci_expr.specs.Prelude.{pattern_view, cost_of}
 use Rattle.ci_expr.proofs.Budgets.{Paid}
 use Rattle.ci_expr.proofs.cost.left_by_patterns.Given as goal
 

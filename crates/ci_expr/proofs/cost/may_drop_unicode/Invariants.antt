@@ -1,5 +1,5 @@
 use Rattle.std.proofs.Common.{◌≡◌, length}
-use Rattle.ci_expr.specs.Budget.{may_drop_unicode}
+use Rattle.ci_expr.specs.Prelude.{may_drop_unicode}
 use Rattle.ci_expr.proofs.cost.may_drop_unicode.Given as goal
 
 abbrev pub invariant-loop-rest : goal.invariant-loop-rest

@@ -1,5 +1,5 @@
 use Rattle.std.proofs.Common.{◌≡◌, drop}
-use Rattle.ci_expr.specs.Budget.{names_unicode}
+use Rattle.ci_expr.specs.Prelude.{names_unicode}
 use Rattle.ci_expr.proofs.cost.names_unicode.Given as goal
 
 abbrev pub invariant-loop-byte : goal.invariant-loop-byte

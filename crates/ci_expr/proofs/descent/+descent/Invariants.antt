@@ -1,6 +1,5 @@
 use Rattle.std.proofs.Common.{◌+◌, ◌*◌, length}
-use Rattle.ci_expr.specs.Formula.{chain}
-use Rattle.ci_expr.specs.Descent.{height}
+use Rattle.ci_expr.specs.Prelude.{chain, height}
 use Rattle.ci_expr.proofs.descent.+descent.Given as goal
 
 abbrev pub decreases-chain_from : goal.decreases-chain_from

@@ -1,8 +1,6 @@
 use Rattle.std.proofs.Common.{map, subst}
 use Rattle.std.proofs.lemmas.Result.{err_from_is_err_and}
-use Rattle.ci_expr.specs.View.{token_view, tokens_view}
-use Rattle.ci_expr.specs.Meaning.{IsBuilt, parse_of}
-use Rattle.ci_expr.specs.Built.{formula_of}
+use Rattle.ci_expr.specs.Prelude.{token_view, tokens_view, IsBuilt, parse_of, formula_of}
 use Rattle.ci_expr.proofs.OneMeaning.{one-meaning}
 use Rattle.ci_expr.proofs.ParseLemmas.{untokenized-error, parse-answer, parse-only, one-formula}
 use Rattle.ci_expr.proofs.expr.parse_within.Goals as goal

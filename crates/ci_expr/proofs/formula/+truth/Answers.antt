@@ -1,10 +1,5 @@
-use Rattle.std.proofs.Common.{rules, ◌≡◌, ◌++◌, ap, subst, sym, ◌∙◌}
-use Rattle.std.specs.Prelude.{◌||◌, ◌&&◌}
-use Rattle.ci_expr.specs.Answered.{AreAnswered}
-use Rattle.ci_expr.specs.Built.{values_of, formula_view, looks_in}
-use Rattle.ci_expr.specs.Formula.{joined}
-use Rattle.ci_expr.specs.Truth.{truth}
-use Rattle.ci_expr.specs.declared.tree.Join.TheVariants as joins
+use Rattle.std.proofs.Common.{rules, ◌≡◌, ◌++◌, ap, subst, sym, ◌∙◌, ◌||◌, ◌&&◌}
+use Rattle.ci_expr.specs.Prelude.{AreAnswered, values_of, formula_view, looks_in, joined, truth, Join}
 use Rattle.ci_expr.proofs.Answering.{answered_first, answered_second}
 use Rattle.ci_expr.proofs.formula.+truth.Goals as goal
 
@@ -13,7 +8,7 @@ returns-then-truth t c = λ h.
     let vs = values_of c.args.env.now in
     let answers = c.args.answers.now in
     let k = c.in-Joined-Or-default-default in
-    let join : k.field-0 ≡ joins.Or = search rules in
+    let join : k.field-0 ≡ Join.Or = search rules in
     let parts : AreAnswered answers (looks_in vs k.a.value ++ looks_in vs k.b.value) = subst (λ f. AreAnswered answers (looks_in vs f)) k.is h in
     let first : c.truth.result ≡ truth vs (formula_view k.a.value) =
     subst (λ f. AreAnswered answers (looks_in vs f) → c.truth.result ≡ truth vs (formula_view f)) c.deref.ensures c.truth.ensures (answered_first answers (looks_in vs k.a.value) (looks_in vs k.b.value) parts) in
@@ -25,7 +20,7 @@ returns-else-truth t c = λ h.
     let vs = values_of c.args.env.now in
     let answers = c.args.answers.now in
     let k = c.in-Joined-Or-default-default in
-    let join : k.field-0 ≡ joins.Or = search rules in
+    let join : k.field-0 ≡ Join.Or = search rules in
     let parts : AreAnswered answers (looks_in vs k.a.value ++ looks_in vs k.b.value) = subst (λ f. AreAnswered answers (looks_in vs f)) k.is h in
     let first : c.truth.result ≡ truth vs (formula_view k.a.value) =
     subst (λ f. AreAnswered answers (looks_in vs f) → c.truth.result ≡ truth vs (formula_view f)) c.deref.ensures c.truth.ensures (answered_first answers (looks_in vs k.a.value) (looks_in vs k.b.value) parts) in
@@ -39,7 +34,7 @@ returns-then-truth-2 t c = λ h.
     let vs = values_of c.args.env.now in
     let answers = c.args.answers.now in
     let k = c.in-Joined-And-default-default in
-    let join : k.field-0 ≡ joins.And = search rules in
+    let join : k.field-0 ≡ Join.And = search rules in
     let parts : AreAnswered answers (looks_in vs k.a.value ++ looks_in vs k.b.value) = subst (λ f. AreAnswered answers (looks_in vs f)) k.is h in
     let first : c.truth-in-Joined-And-default-default.result ≡ truth vs (formula_view k.a.value) =
     subst (λ f. AreAnswered answers (looks_in vs f) → c.truth-in-Joined-And-default-default.result ≡ truth vs (formula_view f)) c.deref-in-Joined-And-default-default.ensures c.truth-in-Joined-And-default-default.ensures (answered_first answers (looks_in vs k.a.value) (looks_in vs k.b.value) parts) in
@@ -53,7 +48,7 @@ returns-else-truth-2 t c = λ h.
     let vs = values_of c.args.env.now in
     let answers = c.args.answers.now in
     let k = c.in-Joined-And-default-default in
-    let join : k.field-0 ≡ joins.And = search rules in
+    let join : k.field-0 ≡ Join.And = search rules in
     let parts : AreAnswered answers (looks_in vs k.a.value ++ looks_in vs k.b.value) = subst (λ f. AreAnswered answers (looks_in vs f)) k.is h in
     let first : c.truth-in-Joined-And-default-default.result ≡ truth vs (formula_view k.a.value) =
     subst (λ f. AreAnswered answers (looks_in vs f) → c.truth-in-Joined-And-default-default.result ≡ truth vs (formula_view f)) c.deref-in-Joined-And-default-default.ensures c.truth-in-Joined-And-default-default.ensures (answered_first answers (looks_in vs k.a.value) (looks_in vs k.b.value) parts) in

@@ -1,5 +1,5 @@
 use Rattle.std.proofs.Common.{◌≡◌, drop, map}
-use Rattle.ci_expr.specs.Truth.{value_of}
+use Rattle.ci_expr.specs.Prelude.{value_of}
 use Rattle.ci_expr.proofs.formula.value_of.Given as goal
 
 abbrev pub invariant-loop-pair : goal.invariant-loop-pair

@@ -1,6 +1,5 @@
 use Rattle.std.proofs.Common.{◌≡◌, drop}
-use Rattle.ci_expr.specs.Built.{Look, pattern_view, looks_view, same_look}
-use Rattle.ci_expr.specs.Distinct.{is_among}
+use Rattle.ci_expr.specs.Prelude.{Look, pattern_view, looks_view, same_look, is_among}
 use Rattle.ci_expr.proofs.looks.has_look.Given as goal
 
 abbrev pub invariant-loop-look : goal.invariant-loop-look

@@ -1,6 +1,5 @@
 use Rattle.std.proofs.Common.{◌≡◌, drop}
-use Rattle.ci_expr.specs.Built.{pattern_view, patterns_view, same_pattern}
-use Rattle.ci_expr.specs.Distinct.{is_among}
+use Rattle.ci_expr.specs.Prelude.{pattern_view, patterns_view, same_pattern, is_among}
 use Rattle.ci_expr.proofs.looks.has_pattern.Given as goal
 
 abbrev pub invariant-loop-other : goal.invariant-loop-other

@@ -1,6 +1,5 @@
 use Rattle.std.proofs.Common.{◌≡◌, ◌≤◌, drop, map}
-use Rattle.ci_expr.specs.Order.{balances}
-use Rattle.ci_expr.specs.View.{token_view}
+use Rattle.ci_expr.specs.Prelude.{balances, token_view}
 use Rattle.ci_expr.proofs.order.balances.Given as goal
 
 abbrev pub invariant-loop-token : goal.invariant-loop-token

@@ -1,6 +1,5 @@
 use Rattle.std.proofs.Common.{◌≡◌, ◌≤◌, drop, map, max}
-use Rattle.ci_expr.specs.Order.{deepest}
-use Rattle.ci_expr.specs.View.{token_view}
+use Rattle.ci_expr.specs.Prelude.{deepest, token_view}
 use Rattle.ci_expr.proofs.order.deepest.Given as goal
 
 abbrev pub invariant-loop-token : goal.invariant-loop-token

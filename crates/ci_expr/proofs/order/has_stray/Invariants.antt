@@ -1,6 +1,5 @@
 use Rattle.std.proofs.Common.{◌≡◌, drop, map, false}
-use Rattle.ci_expr.specs.Order.{has_stray}
-use Rattle.ci_expr.specs.View.{token_view}
+use Rattle.ci_expr.specs.Prelude.{has_stray, token_view}
 use Rattle.ci_expr.proofs.order.has_stray.Given as goal
 
 abbrev pub invariant-loop-token : goal.invariant-loop-token

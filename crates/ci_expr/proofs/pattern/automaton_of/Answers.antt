@@ -1,5 +1,5 @@
 use Rattle.std.proofs.Common.{subst}
-use Rattle.ci_expr.specs.Found.{IsAutomatonOf}
+use Rattle.ci_expr.specs.Prelude.{IsAutomatonOf}
 use Rattle.ci_expr.proofs.pattern.automaton_of.Goals as goal
 
 pub returns-in-Ok-clause-automaton : goal.returns-in-Ok-clause-automaton

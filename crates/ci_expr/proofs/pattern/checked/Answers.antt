@@ -1,5 +1,5 @@
 use Rattle.std.proofs.Common.{subst}
-use Rattle.ci_expr.specs.Found.{IsAutomatonOf}
+use Rattle.ci_expr.specs.Prelude.{IsAutomatonOf}
 use Rattle.ci_expr.proofs.pattern.checked.Goals as goal
 
 pub invariant_of-result : goal.invariant_of-result

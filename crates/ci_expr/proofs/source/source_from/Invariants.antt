@@ -1,6 +1,5 @@
-use Rattle.std.proofs.Common.{◌≡◌, ◌++◌, length, string_bytes}
-use Rattle.std.specs.Prelude.{encode_utf8_all}
-use Rattle.ci_expr.specs.Source.{source_of}
+use Rattle.std.proofs.Common.{◌≡◌, ◌++◌, length, string_bytes, encode_utf8_all}
+use Rattle.ci_expr.specs.Prelude.{source_of}
 use Rattle.ci_expr.proofs.source.source_from.Given as goal
 
 abbrev pub invariant-loop-rest : goal.invariant-loop-rest

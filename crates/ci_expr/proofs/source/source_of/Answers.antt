@@ -1,7 +1,7 @@
 use Rattle.std.proofs.Common.{◌≡◌, chars, sym, ◌∙◌, ap, rules}
 use Rattle.std.proofs.lemmas.Result.{IfOk-weaker}
 use Rattle.std.proofs.lemmas.Str.{chars_from_encodes, IsUtf8-string_bytes}
-use Rattle.ci_expr.specs.Source.{source_of}
+use Rattle.ci_expr.specs.Prelude.{source_of}
 use Rattle.ci_expr.proofs.source.source_of.Goals as goal
 
 pub returns : goal.returns

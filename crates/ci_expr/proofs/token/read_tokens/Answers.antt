@@ -1,5 +1,5 @@
 use Rattle.std.proofs.Common.{◌∙◌, arith, subst, sym, ap, map}
-use Rattle.ci_expr.specs.View.{token_view}
+use Rattle.ci_expr.specs.Prelude.{token_view}
 use Rattle.ci_expr.proofs.Lexing.{Steps, steps-start, steps-blank, steps-token, fails-of, view-push}
 use Rattle.ci_expr.proofs.token.read_tokens.Goals as goal
 

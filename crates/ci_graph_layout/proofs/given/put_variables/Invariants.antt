@@ -1,6 +1,5 @@
 use Rattle.std.proofs.Common.{◌≡◌, ◌++◌, drop, map}
-use Rattle.ci_values.specs.Layers.{layer_view}
-use Rattle.ci_config.specs.View.{variable_view}
+use Rattle.ci_graph_layout.specs.Prelude.{layer_view, variable_view}
 use Rattle.ci_graph_layout.proofs.given.put_variables.Given as goal
 
 abbrev pub invariant-loop-variable : goal.invariant-loop-variable

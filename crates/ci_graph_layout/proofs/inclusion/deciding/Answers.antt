@@ -1,7 +1,5 @@
-use Rattle.ci_expr.specs.Answered.{answered}
-use Rattle.ci_expr.specs.Built.{values_of, same_look}
+use Rattle.ci_graph_layout.specs.Prelude.{answered, values_of, same_look, rule_looks}
 use Rattle.ci_expr.proofs.Answering.{among-part}
-use Rattle.ci_graph_layout.specs.Searches.{rule_looks}
 use Rattle.ci_graph_layout.proofs.inclusion.deciding.Goals as goal
 
 pub holds-requires : goal.holds-requires

@@ -1,6 +1,5 @@
 use Rattle.std.proofs.Common.{◌≡◌, drop}
-use Rattle.ci_values.specs.Layers.{layer_view}
-use Rattle.ci_graph_layout.specs.Inclusion.{names}
+use Rattle.ci_graph_layout.specs.Prelude.{layer_view, names}
 use Rattle.ci_graph_layout.proofs.inclusion.names.Given as goal
 
 abbrev pub invariant-loop-pair : goal.invariant-loop-pair

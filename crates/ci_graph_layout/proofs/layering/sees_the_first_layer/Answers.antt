@@ -1,5 +1,5 @@
 use Rattle.std.proofs.Common.{◌∙◌}
-use Rattle.ci_graph_layout.specs.Inclusion.{seen}
+use Rattle.ci_graph_layout.specs.Prelude.{seen}
 use Rattle.ci_graph_layout.proofs.FirstLayers.{layers_mean}
 use Rattle.ci_graph_layout.proofs.layering.sees_the_first_layer.Goals as goal
 

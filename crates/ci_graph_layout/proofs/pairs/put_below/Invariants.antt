@@ -1,5 +1,5 @@
 use Rattle.std.proofs.Common.{◌≡◌, ◌++◌, drop, map}
-use Rattle.ci_graph_layout.specs.Layout.{below}
+use Rattle.ci_graph_layout.specs.Prelude.{below}
 use Rattle.ci_graph_layout.proofs.pairs.put_below.Given as goal
 
 abbrev pub invariant-loop-i : goal.invariant-loop-i

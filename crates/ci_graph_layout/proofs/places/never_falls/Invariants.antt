@@ -1,5 +1,5 @@
 use Rattle.std.proofs.Common.{◌≡◌, drop}
-use Rattle.ci_graph_layout.specs.Places.{never_falls_from}
+use Rattle.ci_graph_layout.specs.Prelude.{never_falls_from}
 use Rattle.ci_graph_layout.proofs.places.never_falls.Given as goal
 
 abbrev pub invariant-loop-number : goal.invariant-loop-number

@@ -1,9 +1,7 @@
 use Rattle.std.proofs.Common.{◌≡◌, ℕ, List, drop, map}
 use Rattle.std.specs.HashMap as hash
 use Rattle.std.specs.Str.{bytes_eq}
-use Rattle.ci_values.specs.Layers.{or_else}
-use Rattle.ci_graph_layout.specs.Layout.{place_from}
-use Rattle.ci_graph_layout.specs.View.{included_view}
+use Rattle.ci_graph_layout.specs.Prelude.{or_else, place_from, included_view}
 use Rattle.ci_graph_layout.proofs.places.places.Given as goal
 
 abbrev pub invariant-loop-i : goal.invariant-loop-i

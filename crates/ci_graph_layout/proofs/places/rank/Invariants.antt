@@ -1,6 +1,5 @@
 use Rattle.std.proofs.Common.{◌≡◌, ◌+◌, drop}
-use Rattle.ci_values.specs.Table.{words_view}
-use Rattle.ci_graph_layout.specs.Layout.{rank}
+use Rattle.ci_graph_layout.specs.Prelude.{words_view, rank}
 use Rattle.ci_graph_layout.proofs.places.rank.Given as goal
 
 abbrev pub invariant-loop-i : goal.invariant-loop-i

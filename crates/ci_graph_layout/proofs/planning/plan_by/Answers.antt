@@ -1,15 +1,7 @@
-use Rattle.std.proofs.Common.{◌≡◌, None, length, ap, sym, subst, ◌∙◌, rules}
+use Rattle.std.proofs.Common.{◌≡◌, None, length, ap, sym, subst, ◌∙◌, rules, flat_map}
 use Rattle.std.proofs.lemmas.List.{length-map}
-use Rattle.std.specs.Prelude.{flat_map}
 use Rattle.ci_expr.proofs.Answering.{answered_each}
-use Rattle.ci_values.specs.Table.{words_view}
-use Rattle.ci_config.specs.View.{config_view}
-use Rattle.ci_graph.specs.Pairs.{AreWithin, IsAcyclic}
-use Rattle.ci_graph_layout.specs.Fault.{first_fault}
-use Rattle.ci_graph_layout.specs.Layout.{lineup, pairs}
-use Rattle.ci_graph_layout.specs.Places.{stages_of, jobs_of}
-use Rattle.ci_graph_layout.specs.Searches.{job_looks}
-use Rattle.ci_graph_layout.specs.View.{given_view, lineup_view}
+use Rattle.ci_graph_layout.specs.Prelude.{words_view, config_view, AreWithin, IsAcyclic, first_fault, lineup, pairs, stages_of, jobs_of, job_looks, given_view, lineup_view}
 use Rattle.ci_graph_layout.proofs.Planned.{plans_fault, plans_cycle, plans_jobs, pairs_found}
 use Rattle.ci_graph_layout.proofs.planning.plan_by.Goals as goal
 

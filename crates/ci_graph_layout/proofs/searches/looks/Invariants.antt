@@ -1,8 +1,6 @@
 use Rattle.std.proofs.Common.{[]}
-use Rattle.ci_expr.specs.Built.{looks_view, same_look}
+use Rattle.ci_graph_layout.specs.Prelude.{looks_view, same_look, job_looks, given_view}
 use Rattle.ci_expr.proofs.Gathering.{Gathered}
-use Rattle.ci_graph_layout.specs.Searches.{job_looks}
-use Rattle.ci_graph_layout.specs.View.{given_view}
 use Rattle.ci_graph_layout.proofs.searches.looks.Given as goal
 
 abbrev pub invariant-loop-job : goal.invariant-loop-job

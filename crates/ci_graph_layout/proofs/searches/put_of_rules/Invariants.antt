@@ -1,6 +1,5 @@
-use Rattle.ci_expr.specs.Built.{values_of, looks_view, same_look}
+use Rattle.ci_graph_layout.specs.Prelude.{values_of, looks_view, same_look, rule_looks}
 use Rattle.ci_expr.proofs.Gathering.{Gathered}
-use Rattle.ci_graph_layout.specs.Searches.{rule_looks}
 use Rattle.ci_graph_layout.proofs.searches.put_of_rules.Given as goal
 
 abbrev pub invariant-loop-rule : goal.invariant-loop-rule

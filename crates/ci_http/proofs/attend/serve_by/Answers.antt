@@ -1,5 +1,5 @@
 use Rattle.std.proofs.Common.{◌<◌, ◌-◌, ◌++◌, length, Some, vec_len, vec_capacity, ap, subst, ◌∙◌, inr, arith}
-use Rattle.ci_http.specs.ReplyText.{reply_text}
+use Rattle.ci_http_messages.specs.Prelude.{reply_text}
 use Rattle.ci_http.specs.Serving.{Serves}
 use Rattle.ci_http.proofs.attend.serve_by.Goals as goal
 

@@ -1,7 +1,6 @@
-use Rattle.std.proofs.Common.{ap, ◌∙◌, inl, inr}
-use Rattle.std.specs.Prelude.{Err}
-use Rattle.ci_machine.specs.Reply.{refusal}
-use Rattle.ci_http_messages.specs.Reading.{request, refused}
+use Rattle.std.proofs.Common.{ap, ◌∙◌, inl, inr, Err}
+use Rattle.ci_machine.specs.Prelude.{refusal}
+use Rattle.ci_http_messages.specs.Prelude.{request, refused}
 use Rattle.ci_http_messages.proofs.Readings.{tells_map}
 use Rattle.ci_http.specs.Serving.{ReadsByMemory}
 use Rattle.ci_http.proofs.serve.reply_to.Goals as goal

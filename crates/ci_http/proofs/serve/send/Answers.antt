@@ -1,5 +1,4 @@
-use Rattle.std.proofs.Common.{◌≡◌, ℕ, ◌+◌, ◌<◌, List, ◌++◌, length, length-append, ◌∙◌, sym, ap, subst}
-use Rattle.std.specs.Prelude.{Option, Result, OnErr}
+use Rattle.std.proofs.Common.{◌≡◌, ℕ, ◌+◌, ◌<◌, List, ◌++◌, length, length-append, ◌∙◌, sym, ap, subst, Option, Result, OnErr}
 use Rattle.ci_http.specs.Serving.{WritesFront}
 use Rattle.ci_http.proofs.serve.send.Goals as goal
 

@@ -4,8 +4,7 @@ use Rattle.sqlite.specs.Store.{Ghosts}
 use Rattle.ci_machine.specs.declared.reply.Code.{Code}
 use Rattle.ci_machine.specs.declared.reply.Swept.{Swept}
 use Rattle.ci_machine.specs.declared.reply.Swept.TheVariants.{Ended, Cancelled, Nothing, Refused}
-use Rattle.ci_server.specs.Due.{FindsNothingDue}
-use Rattle.ci_server.specs.Servers.{ServerOver}
+use Rattle.ci_server.specs.Prelude.{FindsNothingDue, ServerOver}
 use Rattle.ci_server.proofs.Due.{LeavesReached, one_more, nothing_more}
 use Rattle.ci_http.specs.Sweeping.{DidSomething, Sweeps, Clears, none, more, SweepsUpTo, found_nothing, was_refused}
 use Rattle.ci_http.proofs.sweep.sweep_all.Goals as goal

@@ -1,8 +1,5 @@
-use Rattle.std.specs.Prelude.{Some, codes}
-use Rattle.std.proofs.Common.{ap, sym, ◌∙◌}
-use Rattle.ci_http_messages.specs.BodyLength.{length_after}
-use Rattle.ci_http_messages.specs.Fields.{values_of}
-use Rattle.ci_http_messages.specs.Head.{head_at}
+use Rattle.std.proofs.Common.{Some, codes, ap, sym, ◌∙◌}
+use Rattle.ci_http_messages.specs.Prelude.{length_after, values_of, head_at}
 use Rattle.ci_http_messages.proofs.call.frame.Goals as goal
 
 pub returns-in-Err-clause-refused : goal.returns-in-Err-clause-refused

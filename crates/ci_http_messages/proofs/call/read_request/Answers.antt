@@ -1,11 +1,7 @@
-use Rattle.std.proofs.Common.{◌≡◌, ◌∙◌, sym, ap, subst}
-use Rattle.std.specs.Prelude.{Err, Option}
+use Rattle.std.proofs.Common.{◌≡◌, ◌∙◌, sym, ap, subst, Err, Option}
 use Rattle.std.proofs.lemmas.Result.{err_from_is_err_and}
-use Rattle.ci_http_messages.specs.declared.fault.HttpFault.TheVariants.{Refused, Ended, Memory}
-use Rattle.ci_http_messages.specs.Head.{Head, IsHeadOf, head_at}
-use Rattle.ci_http_messages.specs.Reading.{Refuses, IsReading, IsReadingCode, AwaitsBody, request, message}
-use Rattle.ci_http_messages.specs.Sources.{Tells}
-use Rattle.ci_http_messages.specs.Opening.{opening_of, opened}
+use Rattle.ci_http_messages.specs.Prelude.{Refused, Ended, Memory, Head, IsHeadOf, head_at, Refuses, IsReading, IsReadingCode, AwaitsBody, request, message, Tells, opening_of}
+use Rattle.ci_http_messages.specs.Prelude.{opened}
 use Rattle.ci_http_messages.proofs.Codes.{refused-code}
 use Rattle.ci_http_messages.proofs.Heads.{takes_more}
 use Rattle.ci_http_messages.proofs.Readings.{tells_map, tells_then, consumes_tells, reading_large, reading_refused, reading_ended, reading_call, awaits}

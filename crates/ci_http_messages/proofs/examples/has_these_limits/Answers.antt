@@ -1,7 +1,7 @@
 use Rattle.std.proofs.Common.{◌≡◌, refl, ℕ, ◌≤◌, List, [], length, take, drop, count_by, true, false, ltb, Some, None, arith}
 use Rattle.std.proofs.lemmas.Bool.{le-ltb, lt-ltb}
 use Rattle.std.proofs.lemmas.List.{take_all, drop_all}
-use Rattle.ci_http_messages.specs.Opening.{short, too_large, opened, head_len, is_line_feed, opening_of}
+use Rattle.ci_http_messages.specs.Prelude.{short, too_large, opened, head_len, is_line_feed, opening_of}
 use Rattle.ci_http_messages.proofs.examples.has_these_limits.Goals as goal
 
 -- a text that is no longer than a head may be is opened as a whole

@@ -1,6 +1,6 @@
 use Rattle.std.proofs.Common.{◌∙◌, sym, ap, subst, take, ◌+◌}
 use Rattle.std.specs.Str.{str_eq_ignore_ascii_case}
-use Rattle.ci_http_messages.specs.Fields.{Shows}
+use Rattle.ci_http_messages.specs.Prelude.{Shows}
 use Rattle.ci_http_messages.proofs.Values.{turn_same, turn_once, turn_twice, values_at}
 use Rattle.ci_http_messages.proofs.fields.find_field.Goals as goal
 use Rattle.ci_http_messages.proofs.fields.find_field.Goals.{then-is_same_name+in-Absent, else-is_same_name}

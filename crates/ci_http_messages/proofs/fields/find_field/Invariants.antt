@@ -1,7 +1,7 @@
 -- What was found so far.
 use Rattle.std.proofs.Common.{map, take}
 use Rattle.httparse.specs.Spans.{header_bytes}
-use Rattle.ci_http_messages.specs.Fields.{values_of, Shows}
+use Rattle.ci_http_messages.specs.Prelude.{values_of, Shows}
 use Rattle.ci_http_messages.proofs.fields.find_field.Given as goal
 
 abbrev pub invariant-loop-header : goal.invariant-loop-header

@@ -1,7 +1,6 @@
-use Rattle.std.specs.Prelude.{nat_eq}
+use Rattle.std.proofs.Common.{nat_eq, sym, ap, ◌∙◌, arith}
 use Rattle.std.specs.List.{starts_with}
-use Rattle.std.proofs.Common.{sym, ap, ◌∙◌, arith}
-use Rattle.ci_http_messages.specs.Opening.{empty_line}
+use Rattle.ci_http_messages.specs.Prelude.{empty_line}
 use Rattle.ci_http_messages.proofs.Places.{begins_later, left_there}
 use Rattle.ci_http_messages.proofs.head.head_len.Goals as goal
 

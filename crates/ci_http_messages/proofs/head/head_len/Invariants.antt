@@ -1,6 +1,5 @@
-use Rattle.std.proofs.Common.{◌≡◌, ◌+◌, drop}
-use Rattle.std.specs.Prelude.{option_map}
-use Rattle.ci_http_messages.specs.Opening.{head_len}
+use Rattle.std.proofs.Common.{◌≡◌, ◌+◌, drop, option_map}
+use Rattle.ci_http_messages.specs.Prelude.{head_len}
 use Rattle.ci_http_messages.proofs.head.head_len.Given as goal
 
 -- no empty line begins before this place

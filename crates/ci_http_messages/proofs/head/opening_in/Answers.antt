@@ -1,5 +1,5 @@
 use Rattle.std.proofs.Common.{refl, sym, ◌∙◌, arith, drop, length-take}
-use Rattle.ci_http_messages.specs.declared.limits.TheConstants.{MAX_HEAD_BYTES}
+use Rattle.ci_http_messages.specs.Prelude.{MAX_HEAD_BYTES}
 use Rattle.ci_http_messages.proofs.Places.{has_too_many_lines, has_head, ends_early, has_no_end}
 use Rattle.ci_http_messages.proofs.head.opening_in.Goals as goal
 

@@ -1,8 +1,7 @@
-use Rattle.std.proofs.Common.{◌∙◌, ap, subst, arith, take}
-use Rattle.std.specs.Prelude.{nat_eq, count_by}
+use Rattle.std.proofs.Common.{◌∙◌, ap, subst, arith, take, nat_eq, count_by}
 use Rattle.std.specs.List.{ends_with}
 use Rattle.std.specs.Io.KnownBytes.{Consumes}
-use Rattle.ci_http_messages.specs.Opening.{empty_line, is_line_feed}
+use Rattle.ci_http_messages.specs.Prelude.{empty_line, is_line_feed}
 use Rattle.ci_http_messages.proofs.Heads.{taken_more, whole_read, taken_ended, taken_all, whole_head, whole_lines, one_byte, takes_more}
 use Rattle.ci_http_messages.proofs.head.read_head.Goals as goal
 

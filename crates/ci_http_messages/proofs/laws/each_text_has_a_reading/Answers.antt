@@ -1,9 +1,5 @@
-use Rattle.std.proofs.Common.{◌≡◌, ℕ, List, refl, sym, ap, subst, ◌∙◌}
-use Rattle.std.specs.Prelude.{Option, Some, None, Err}
-use Rattle.ci_http_messages.specs.declared.fault.HttpFault.TheVariants.{Refused}
-use Rattle.ci_http_messages.specs.Head.{Head, IsHeadOf, head_at}
-use Rattle.ci_http_messages.specs.Opening.{opened, opening_of}
-use Rattle.ci_http_messages.specs.Reading.{Reading, ended, refused, reading_after, IsReadingAt, IsReading}
+use Rattle.std.proofs.Common.{◌≡◌, ℕ, List, refl, sym, ap, subst, ◌∙◌, Option, Some, None, Err}
+use Rattle.ci_http_messages.specs.Prelude.{Refused, Head, IsHeadOf, head_at, opened, opening_of, Reading, ended, refused, reading_after, IsReadingAt, IsReading}
 use Rattle.ci_http_messages.proofs.Readings.{reading_short, reading_large}
 use Rattle.ci_http_messages.proofs.laws.each_text_has_a_reading.Goals as goal
 

@@ -1,11 +1,8 @@
-use Rattle.std.proofs.Common.{◌≡◌, ℕ, List, ◌∙◌, ap, sym, subst, true, false}
-use Rattle.std.specs.Prelude.{if◌then◌else◌}
+use Rattle.std.proofs.Common.{◌≡◌, ℕ, List, ◌∙◌, ap, sym, subst, true, false, if◌then◌else◌}
 use Rattle.std.specs.Str.{IsUtf8, is_utf8}
 use Rattle.std.proofs.lemmas.Str.{IsUtf8-from_is_utf8, is_utf8-from_IsUtf8}
 use Rattle.std.proofs.lemmas.Bool.{false_from_ne_true}
-use Rattle.ci_http_messages.specs.Routes.{Asked, no_route, asked_in}
-use Rattle.ci_http_messages.specs.RequestBytes.{asked_at}
-use Rattle.ci_http_messages.specs.Targets.{path_of}
+use Rattle.ci_http_messages.specs.Prelude.{Asked, no_route, asked_in, asked_at, path_of}
 use Rattle.ci_http_messages.proofs.route.asked_by.Goals as goal
 
 -- a path that is UTF-8 is looked up

@@ -1,9 +1,7 @@
-use Rattle.std.proofs.Common.{◌≡◌, ◌⊎◌, ◌∙◌, sym, subst}
-use Rattle.std.specs.Prelude.{Err}
+use Rattle.std.proofs.Common.{◌≡◌, ◌⊎◌, ◌∙◌, sym, subst, Err}
 use Rattle.ci_machine.specs.declared.reply.Code.TheVariants.{M16}
-use Rattle.ci_machine.specs.Reply.{refusal}
-use Rattle.ci_http_messages.specs.Answers.{map_key}
-use Rattle.ci_http_messages.specs.RequestBytes.{request_in, AsksMemory}
+use Rattle.ci_machine.specs.Prelude.{refusal}
+use Rattle.ci_http_messages.specs.Prelude.{map_key, request_in, AsksMemory}
 use Rattle.ci_http_messages.proofs.Requests.{asks_request, why_not}
 use Rattle.ci_http_messages.proofs.route.request_of.Goals as goal
 

@@ -1,6 +1,5 @@
-use Rattle.std.proofs.Common.{◌≡◌, ℕ, List, ap, ◌∙◌, ◌++◌, length}
-use Rattle.std.specs.Prelude.{codes}
-use Rattle.ci_http_messages.specs.ReplyText.{status_line, type_text, type_line, length_line}
+use Rattle.std.proofs.Common.{◌≡◌, ℕ, List, ap, ◌∙◌, ◌++◌, length, codes}
+use Rattle.ci_http_messages.specs.Prelude.{status_line, type_text, type_line, length_line}
 use Rattle.ci_http_messages.proofs.text.head_of.Goals as goal
 
 -- one piece after another

@@ -1,6 +1,5 @@
-use Rattle.std.proofs.Common.{ap, sym, ◌∙◌, ◌++◌}
-use Rattle.std.specs.Prelude.{codes}
-use Rattle.ci_http_messages.specs.ReplyText.{job_status_line, crlf}
+use Rattle.std.proofs.Common.{ap, sym, ◌∙◌, ◌++◌, codes}
+use Rattle.ci_http_messages.specs.Prelude.{job_status_line, crlf}
 use Rattle.ci_http_messages.proofs.text.put_job_status.Goals as goal
 
 pub returns-in-Some-clause-items : goal.returns-in-Some-clause-items

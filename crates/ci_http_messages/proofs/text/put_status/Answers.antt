@@ -1,7 +1,6 @@
-use Rattle.std.proofs.Common.{◌≡◌, ℕ, List, [], ◌∷◌, ◌++◌, ap, ◌∙◌, append_assoc}
-use Rattle.std.specs.Prelude.{codes}
+use Rattle.std.proofs.Common.{◌≡◌, ℕ, List, [], ◌∷◌, ◌++◌, ap, ◌∙◌, append_assoc, codes}
 use Rattle.http.specs.StatusCode.{code_digits}
-use Rattle.ci_http_messages.specs.ReplyText.{number_of, reason_of, status_line}
+use Rattle.ci_http_messages.specs.Prelude.{number_of, reason_of, status_line}
 use Rattle.ci_http_messages.proofs.text.put_status.Goals as goal
 
 -- one piece after another

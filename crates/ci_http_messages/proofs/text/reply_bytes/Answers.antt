@@ -1,6 +1,6 @@
 use Rattle.std.proofs.Common.{◌≡◌, ◌<◌, ◌^◌, ◌++◌, length, sym, subst}
-use Rattle.ci_machine.specs.Reply.{body_text}
-use Rattle.ci_http_messages.specs.ReplyText.{reply_text, IsResponse}
+use Rattle.ci_machine.specs.Prelude.{body_text}
+use Rattle.ci_http_messages.specs.Prelude.{reply_text, IsResponse}
 use Rattle.ci_http_messages.proofs.Responses.{is_response}
 use Rattle.ci_http_messages.proofs.text.reply_bytes.Goals as goal
 

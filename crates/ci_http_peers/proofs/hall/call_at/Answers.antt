@@ -1,5 +1,4 @@
-use Rattle.std.proofs.Common.{◌≡◌, refl, subst, get_or}
-use Rattle.std.specs.Prelude.{Some}
+use Rattle.std.proofs.Common.{◌≡◌, refl, subst, get_or, Some}
 use Rattle.std.proofs.lemmas.Option.{slice_get-get_or}
 use Rattle.ci_http_peers.specs.Turns.{CallsAt}
 use Rattle.ci_http_peers.proofs.Turns.{here_set, same_item, no_item, none_past}

@@ -1,5 +1,4 @@
-use Rattle.std.proofs.Common.{◌≡◌, ◌∙◌, refl, sym, ap, subst}
-use Rattle.std.specs.Prelude.{Some}
+use Rattle.std.proofs.Common.{◌≡◌, ◌∙◌, refl, sym, ap, subst, Some}
 use Rattle.std.proofs.lemmas.Bool.{true≢false}
 use Rattle.ci_http_peers.proofs.Turns.{same_item, no_item, none_past}
 use Rattle.ci_http_peers.proofs.hall.end_at.Goals as goal

@@ -1,5 +1,4 @@
-use Rattle.std.proofs.Common.{ℕ, ◌<◌}
-use Rattle.std.specs.Prelude.{slice_get}
+use Rattle.std.proofs.Common.{ℕ, ◌<◌, slice_get}
 use Rattle.ci_http_peers.specs.Peers.{IsTaken}
 use Rattle.ci_http_peers.proofs.peers.free_place.Given as goal
 

@@ -1,5 +1,4 @@
-use Rattle.std.proofs.Common.{◌++◌}
-use Rattle.std.specs.Prelude.{slice_get}
+use Rattle.std.proofs.Common.{◌++◌, slice_get}
 use Rattle.ci_http_peers.proofs.Turns.{as_answers, more_answers}
 use Rattle.ci_http_peers.proofs.serve.hear.Goals as goal
 

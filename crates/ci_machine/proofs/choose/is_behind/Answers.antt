@@ -1,5 +1,5 @@
 use Rattle.std.proofs.Common.{sym, ap, ◌∙◌}
-use Rattle.ci_machine.specs.Groups.{is_behind}
+use Rattle.ci_machine.specs.Prelude.{is_behind}
 use Rattle.ci_machine.proofs.Claims.{none_ahead}
 use Rattle.ci_machine.proofs.choose.is_behind.Goals as goal
 

@@ -1,7 +1,5 @@
-use Rattle.std.specs.Prelude.{Some}
-use Rattle.std.proofs.Common.{◌∙◌}
-use Rattle.ci_machine.specs.Eligible.{holds}
-use Rattle.ci_machine.specs.Holders.{held_by}
+use Rattle.std.proofs.Common.{Some, ◌∙◌}
+use Rattle.ci_machine.specs.Prelude.{holds, held_by}
 use Rattle.ci_machine.proofs.Tests.{any_joined}
 use Rattle.ci_machine.proofs.choose.is_held_among.Goals as goal
 

@@ -1,10 +1,6 @@
-use Rattle.std.specs.Prelude.{◌&&◌, not}
+use Rattle.std.proofs.Common.{◌&&◌, not, sym, ap, ◌∙◌}
 use Rattle.std.specs.List.{list_any}
-use Rattle.std.proofs.Common.{sym, ap, ◌∙◌}
-use Rattle.ci_machine.specs.Eligible.{holds}
-use Rattle.ci_machine.specs.Groups.{is_behind, order_of}
-use Rattle.ci_machine.specs.Holders.{held_among}
-use Rattle.ci_machine.specs.Waiting.{groups_among}
+use Rattle.ci_machine.specs.Prelude.{holds, is_behind, order_of, held_among, groups_among}
 use Rattle.ci_machine.proofs.Claims.{free_by}
 use Rattle.ci_machine.proofs.choose.resource_free.Goals as goal
 

@@ -1,9 +1,7 @@
-use Rattle.std.specs.Prelude.{◌≡◌, ℕ, ◌==◌, false, List, [], ◌∷◌, length}
+use Rattle.std.proofs.Common.{◌≡◌, ℕ, ◌==◌, false, List, [], ◌∷◌, length, refl, sym, ◌∙◌}
 use Rattle.std.specs.List.{list_all}
-use Rattle.std.proofs.Common.{refl, sym, ◌∙◌}
 use Rattle.std.proofs.lemmas.Bool.{false≢true}
-use Rattle.ci_machine.specs.declared.records.Runner.{Runner}
-use Rattle.ci_machine.specs.Eligible.{has_tag, takes}
+use Rattle.ci_machine.specs.Prelude.{Runner, has_tag, takes}
 use Rattle.ci_machine.proofs.choose.takes.Goals as goal
 
 some : (runner : Runner) (tags : List (List ℕ)) → (length tags == 0) ≡ false → list_all (has_tag runner) tags ≡ takes runner tags

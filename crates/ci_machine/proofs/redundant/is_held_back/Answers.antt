@@ -1,5 +1,5 @@
 use Rattle.std.proofs.Common.{◌∙◌}
-use Rattle.ci_machine.specs.Redundant.{is_bound_to}
+use Rattle.ci_machine.specs.Prelude.{is_bound_to}
 use Rattle.ci_machine.proofs.Tests.{any_mapped}
 use Rattle.ci_machine.proofs.redundant.is_held_back.Goals as goal
 

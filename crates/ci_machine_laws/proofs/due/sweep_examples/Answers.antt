@@ -1,9 +1,6 @@
-use Rattle.std.specs.Prelude.{List, [], ◌∷◌}
-use Rattle.std.proofs.Common.{refl, inl, inr}
-use Rattle.ci_board.specs.declared.facts.Status.TheVariants.{Pending, Running, Failed, Canceled}
-use Rattle.ci_machine.specs.declared.records.BoardRow.{BoardRow}
-use Rattle.ci_machine.specs.State.{State}
-use Rattle.ci_machine.specs.Statuses.{AreBoard}
+use Rattle.std.proofs.Common.{List, [], ◌∷◌, refl, inl, inr}
+use Rattle.ci_machine_steps.specs.Prelude.{Pending, Running, Canceled, BoardRow, State, AreBoard}
+use Rattle.ci_board.specs.declared.facts.Status.TheVariants.{Failed}
 use Rattle.ci_machine_laws.specs.Examples.{seed, swept}
 use Rattle.ci_machine_laws.specs.SweepExamples.{overtaken, third_waits, swept_once, swept_twice}
 use Rattle.ci_machine_laws.proofs.Computed.{rows_of_one, some_pipelines}

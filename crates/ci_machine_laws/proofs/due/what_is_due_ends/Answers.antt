@@ -1,7 +1,5 @@
-use Rattle.std.specs.Prelude.{◌≡◌}
-use Rattle.ci_machine.specs.declared.reply.Swept.{Swept}
-use Rattle.ci_machine.specs.declared.reply.Swept.TheVariants as swept
-use Rattle.std.proofs.Common.{arith}
+use Rattle.std.proofs.Common.{◌≡◌, arith}
+use Rattle.ci_machine_steps.specs.Prelude.{Swept}
 use Rattle.ci_machine.proofs.Keyed.{has_from_all}
 use Rattle.ci_machine_laws.specs.Sweeping.{unended}
 use Rattle.ci_machine_laws.proofs.Sweeping.{none_left, so_many, ends_by}
@@ -11,7 +9,7 @@ pub returns-clause-none_left : goal.returns-clause-none_left
 returns-clause-none_left c = λ s t now did is sweeps. none_left now is.0 s t did is.1 sweeps
 
 pub returns-clause-so_many : goal.returns-clause-so_many
-returns-clause-so_many c = λ s t now did one is sweeps something. so_many c.one_assignment.ensures now is.0 s t did is.1 one sweeps (λ d k. has_from_all (λ (e : Swept). e ≡ swept.Nothing → ⊥) d did something k)
+returns-clause-so_many c = λ s t now did one is sweeps something. so_many c.one_assignment.ensures now is.0 s t did is.1 one sweeps (λ d k. has_from_all (λ (e : Swept). e ≡ Swept.Nothing → ⊥) d did something k)
 
 pub returns-clause-ends : goal.returns-clause-ends
 returns-clause-ends c = λ s now seed one is. ends_by c.one_assignment.ensures now seed (unended s one.board) is.0 s is.1 one (omega arith)

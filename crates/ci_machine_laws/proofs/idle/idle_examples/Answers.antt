@@ -1,12 +1,7 @@
-use Rattle.std.specs.Prelude.{ℕ, false, List, [], ◌∷◌, codes}
+use Rattle.std.proofs.Common.{ℕ, false, List, [], ◌∷◌, codes, refl, sym, ap, inl, inr, arith}
 use Rattle.std.specs.Str.{bytes_eq}
-use Rattle.std.proofs.Common.{refl, sym, ap, inl, inr, arith}
 use Rattle.std.proofs.lemmas.Bool.{false≢true}
-use Rattle.ci_values.specs.declared.attempts.AttemptState.TheVariants.{Live}
-use Rattle.ci_machine.specs.declared.records.GroupMode.{GroupMode}
-use Rattle.ci_machine.specs.declared.records.GroupOrder.TheVariants.{OldestFirst, NewestReadyFirst}
-use Rattle.ci_machine.specs.declared.records.Attempt.{Attempt}
-use Rattle.ci_board.specs.declared.facts.Status.TheVariants.{Pending}
+use Rattle.ci_machine_steps.specs.Prelude.{Live, GroupMode, OldestFirst, NewestReadyFirst, Attempt, Pending}
 use Rattle.ci_machine.proofs.Keyed.{Has, contains_from_has, has_from_contains}
 use Rattle.ci_machine_laws.specs.Examples.{leased}
 use Rattle.ci_machine_laws.specs.ActExamples.{its_pipeline, tried}

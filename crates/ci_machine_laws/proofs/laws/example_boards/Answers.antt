@@ -1,12 +1,8 @@
-use Rattle.std.specs.Prelude.{List, [], ◌∷◌, map}
-use Rattle.std.proofs.Common.{refl}
+use Rattle.std.proofs.Common.{List, [], ◌∷◌, map, refl}
 use Rattle.std.specs.Fmt.{digits}
 use Rattle.hex.proofs.OnLiterals.{hex_on_literals}
-use Rattle.ci_board.specs.declared.facts.Status.TheVariants.{Pending, Running, Failed}
-use Rattle.ci_machine.specs.declared.records.Job.{Job}
-use Rattle.ci_machine.specs.declared.records.BoardRow.{BoardRow}
-use Rattle.ci_machine.specs.State.{State}
-use Rattle.ci_machine.specs.Statuses.{graph_by, facts_in, row_for}
+use Rattle.ci_machine_steps.specs.Prelude.{Pending, Running, Job, BoardRow, State, graph_by, facts_in, row_for}
+use Rattle.ci_board.specs.declared.facts.Status.TheVariants.{Failed}
 use Rattle.ci_machine_laws.specs.Examples.{made, with_pipeline, with_attempt, leased, after, swept, job, two_rows, rows}
 use Rattle.ci_machine_laws.proofs.Computed.{computed_rows, one_pipeline}
 use Rattle.ci_machine_laws.proofs.laws.example_boards.Goals as goal

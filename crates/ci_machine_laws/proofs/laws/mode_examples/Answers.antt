@@ -1,11 +1,7 @@
-use Rattle.std.specs.Prelude.{List, [], ◌∷◌, None}
-use Rattle.std.proofs.Common.{refl, inl, inr}
+use Rattle.std.proofs.Common.{List, [], ◌∷◌, None, refl, inl, inr}
 use Rattle.std.specs.Fmt.{digits}
 use Rattle.serde_json.proofs.OnLiterals.{serde_json_on_literals}
-use Rattle.ci_values.specs.declared.attempts.AttemptState.TheVariants.{Live, Succeeded}
-use Rattle.ci_board.specs.declared.facts.Status.TheVariants.{Pending, Running, Success}
-use Rattle.ci_machine.specs.declared.records.BoardRow.{BoardRow}
-use Rattle.ci_machine.specs.State.{State}
+use Rattle.ci_machine_steps.specs.Prelude.{Live, Succeeded, Pending, Running, Success, BoardRow, State}
 use Rattle.ci_machine_laws.specs.ModeExamples.{three, third_is, third_tried, pairs, pairs_running, pairs_done}
 use Rattle.ci_machine_laws.proofs.Computed.{rows_of_one, some_pipelines}
 use Rattle.ci_machine_laws.proofs.laws.mode_examples.Goals as goal

@@ -1,12 +1,7 @@
-use Rattle.std.specs.Prelude.{List, [], ◌∷◌, map}
-use Rattle.std.proofs.Common.{refl, inl, inr}
+use Rattle.std.proofs.Common.{List, [], ◌∷◌, map, refl, inl, inr}
 use Rattle.std.specs.Fmt.{digits}
 use Rattle.serde_json.proofs.OnLiterals.{serde_json_on_literals}
-use Rattle.ci_board.specs.declared.facts.Status.TheVariants.{Pending, Running}
-use Rattle.ci_machine.specs.declared.records.Job.{Job}
-use Rattle.ci_machine.specs.declared.records.BoardRow.{BoardRow}
-use Rattle.ci_machine.specs.State.{State}
-use Rattle.ci_machine.specs.Statuses.{graph_by, facts_in, row_for}
+use Rattle.ci_machine_steps.specs.Prelude.{Pending, Running, Job, BoardRow, State, graph_by, facts_in, row_for}
 use Rattle.ci_machine_laws.specs.PruneExamples.{both_done, both_board, second_left, second_board, running, waiting, with_second}
 use Rattle.ci_machine_laws.proofs.Computed.{computed_rows, one_pipeline, rows_of_one, some_pipelines}
 use Rattle.ci_machine_laws.proofs.laws.prune_examples.Goals as goal

@@ -1,11 +1,7 @@
-use Rattle.std.specs.Prelude.{List, map}
-use Rattle.std.proofs.Common.{refl}
+use Rattle.std.proofs.Common.{List, map, refl}
 use Rattle.std.specs.Fmt.{digits}
 use Rattle.serde_json.proofs.OnLiterals.{serde_json_on_literals}
-use Rattle.ci_machine.specs.declared.records.Job.{Job}
-use Rattle.ci_machine.specs.declared.records.BoardRow.{BoardRow}
-use Rattle.ci_machine.specs.State.{State}
-use Rattle.ci_machine.specs.Statuses.{graph_by, facts_in, row_for}
+use Rattle.ci_machine_steps.specs.Prelude.{Job, BoardRow, State, graph_by, facts_in, row_for}
 use Rattle.ci_machine_laws.specs.Examples.{after}
 use Rattle.ci_machine_laws.specs.ActExamples.{board_from, five, five_board, first_retried, retried_rows}
 use Rattle.ci_machine_laws.proofs.Computed.{computed_rows, one_pipeline}

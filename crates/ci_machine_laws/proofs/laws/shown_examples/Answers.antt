@@ -1,10 +1,7 @@
-use Rattle.std.specs.Prelude.{List, [], ◌∷◌}
-use Rattle.std.proofs.Common.{refl, inl, inr}
+use Rattle.std.proofs.Common.{List, [], ◌∷◌, refl, inl, inr}
 use Rattle.std.specs.Fmt.{digits}
 use Rattle.serde_json.proofs.OnLiterals.{serde_json_on_literals}
-use Rattle.ci_board.specs.declared.facts.Status.TheVariants.{Pending, Canceled, Success}
-use Rattle.ci_machine.specs.declared.records.BoardRow.{BoardRow}
-use Rattle.ci_machine.specs.State.{State}
+use Rattle.ci_machine_steps.specs.Prelude.{Pending, Canceled, Success, BoardRow, State}
 use Rattle.ci_machine_laws.specs.Examples.{after}
 use Rattle.ci_machine_laws.specs.ShownExamples.{three_rows, oldest, all_wait, second_cancelled, first_cancelled, third_done, third_retried}
 use Rattle.ci_machine_laws.proofs.Computed.{rows_of_one, some_pipelines}

@@ -1,7 +1,7 @@
 use Rattle.std.proofs.Common.{refl}
 use Rattle.std.specs.Fmt.{digits}
 use Rattle.serde_json.proofs.OnLiterals.{serde_json_on_literals}
-use Rattle.ci_machine.specs.Dates.{day_at, stamp_text}
+use Rattle.ci_machine_steps.specs.Prelude.{day_at, stamp_text}
 use Rattle.ci_machine_laws.proofs.reads.listed_job_examples.Goals as goal
 
 pub returns-clause-jobs : goal.returns-clause-jobs

@@ -1,10 +1,7 @@
-use Rattle.std.proofs.Common.{refl, inl, inr}
+use Rattle.std.proofs.Common.{refl, inl, inr, List, [], ◌∷◌}
 use Rattle.std.specs.Fmt.{digits}
 use Rattle.serde_json.proofs.OnLiterals.{serde_json_on_literals}
-use Rattle.ci_machine.specs.Dates.{day_at, stamp_text}
-use Rattle.std.specs.Prelude.{List, [], ◌∷◌}
-use Rattle.ci_machine.specs.declared.records.BoardRow.{BoardRow}
-use Rattle.ci_machine.specs.State.{State}
+use Rattle.ci_machine_steps.specs.Prelude.{day_at, stamp_text, BoardRow, State}
 use Rattle.ci_machine_laws.specs.ReadExamples.{two_projects, two_projects_board}
 use Rattle.ci_machine_laws.proofs.Computed.{rows_of_one, some_pipelines}
 use Rattle.ci_machine_laws.proofs.reads.read_examples.Goals as goal

@@ -1,11 +1,9 @@
 use Rattle.std.proofs.Common.{ℕ, List, [], length, map, sym, subst, ap, ◌∙◌}
 use Rattle.std.proofs.lemmas.List.{length-map}
-use Rattle.ci_config.specs.View.{config_view}
-use Rattle.ci_graph.specs.Pairs.{AreWithin}
-use Rattle.ci_graph_layout.specs.Inclusion.{Given}
-use Rattle.ci_graph_layout.specs.View.{given_view, included_view}
+use Rattle.ci_graph_layout.specs.Prelude.{config_view, Given, given_view, included_view}
+use Rattle.ci_machine.specs.Prelude.{AreWithin}
 use Rattle.ci_graph_layout.specs.declared.inclusion.IncludedJob.{IncludedJob}
-use Rattle.ci_machine_steps.specs.Pipelines.{new_jobs, variables_from, put_needs}
+use Rattle.ci_machine_steps.specs.Prelude.{new_jobs, variables_from, put_needs}
 use Rattle.ci_machine_pipelines.proofs.creation.all_records.Goals as goal
 
 pub need_keys-requires-clause-within : goal.need_keys-requires-clause-within

@@ -1,5 +1,5 @@
 use Rattle.std.proofs.Common.{◌≡◌, ◌++◌, drop}
-use Rattle.ci_values.specs.Table.{words_view}
+use Rattle.ci_machine_steps.specs.Prelude.{words_view}
 use Rattle.ci_machine_pipelines.proofs.creation.copies.Given as goal
 
 abbrev pub invariant-loop-text : goal.invariant-loop-text

@@ -1,5 +1,5 @@
 use Rattle.std.proofs.Common.{◌≡◌, [], drop, map}
-use Rattle.ci_machine_steps.specs.Pipelines.{put_needs}
+use Rattle.ci_machine_steps.specs.Prelude.{put_needs}
 use Rattle.ci_machine_pipelines.specs.Creations.{need_of_key}
 use Rattle.ci_machine_pipelines.proofs.creation.need_keys.Given as goal
 

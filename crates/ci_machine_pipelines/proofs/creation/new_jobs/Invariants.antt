@@ -1,6 +1,6 @@
 use Rattle.std.proofs.Common.{◌≡◌, ◌++◌, drop, map}
-use Rattle.ci_graph_layout.specs.View.{included_view}
-use Rattle.ci_machine_steps.specs.Pipelines.{new_jobs}
+use Rattle.ci_graph_layout.specs.Prelude.{included_view}
+use Rattle.ci_machine_steps.specs.Prelude.{new_jobs}
 use Rattle.ci_machine_pipelines.proofs.creation.new_jobs.Given as goal
 
 -- the jobs so far, and those that are left, are all of them

@@ -1,7 +1,7 @@
 use Rattle.std.proofs.Common.{◌≡◌, ℕ, length, sym, ap, ◌∙◌, arith}
 use Rattle.std.proofs.lemmas.List.{length-map}
-use Rattle.ci_graph_layout.specs.View.{included_view}
-use Rattle.ci_machine_steps.specs.Pipelines.{lacks_numbers}
+use Rattle.ci_graph_layout.specs.Prelude.{included_view}
+use Rattle.ci_machine_steps.specs.Prelude.{lacks_numbers}
 use Rattle.ci_machine_pipelines.proofs.Laying.{numbers_fit}
 use Rattle.ci_machine_pipelines.proofs.creation.records_of.Goals as goal
 

@@ -1,4 +1,4 @@
-use Rattle.ci_yaml_lines.specs.TreeView.{value_view}
+use Rattle.ci_config.specs.Prelude.{value_view}
 use Rattle.ci_machine_pipelines.proofs.Readings.{of_tree, of_fault}
 use Rattle.ci_machine_pipelines.proofs.files.jobs_in.Goals as goal
 

@@ -1,7 +1,7 @@
 use Rattle.std.proofs.Common.{◌≡◌, ◌∙◌, length, sym, arith}
 use Rattle.std.proofs.lemmas.List.{length-map}
-use Rattle.ci_yaml_lines.specs.TreeView.{value_view}
-use Rattle.ci_config.specs.View.{config_view, job_view}
+use Rattle.ci_config.specs.Prelude.{value_view}
+use Rattle.ci_graph_layout.specs.Prelude.{config_view, job_view}
 use Rattle.ci_machine_pipelines.proofs.Readings.{of_keywords}
 use Rattle.ci_machine_pipelines.proofs.files.jobs_of_tree.Goals as goal
 

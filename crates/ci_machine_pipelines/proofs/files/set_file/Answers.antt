@@ -1,7 +1,6 @@
-use Rattle.std.specs.Prelude.{List, ℕ, Ok, Err}
-use Rattle.std.proofs.Common.{subst}
+use Rattle.std.proofs.Common.{List, ℕ, Ok, Err, subst}
 use Rattle.std.proofs.lemmas.Result.{IfOk-weaker}
-use Rattle.ci_machine_steps.specs.Files.{IsRead}
+use Rattle.ci_machine_steps.specs.Prelude.{IsRead}
 use Rattle.ci_machine_pipelines.specs.declared.files.FileFault.{FileFault}
 use Rattle.ci_machine_pipelines.specs.Readings.{Counts}
 use Rattle.ci_machine_pipelines.proofs.files.set_file.Goals as goal

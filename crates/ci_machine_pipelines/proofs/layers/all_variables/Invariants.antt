@@ -1,7 +1,6 @@
 use Rattle.std.proofs.Common.{◌≡◌, ◌+◌, ◌++◌, drop, map}
-use Rattle.ci_config.specs.View.{config_view}
-use Rattle.ci_graph_layout.specs.View.{given_view, included_view}
-use Rattle.ci_machine_steps.specs.Pipelines.{variables_from}
+use Rattle.ci_graph_layout.specs.Prelude.{config_view, given_view, included_view}
+use Rattle.ci_machine_steps.specs.Prelude.{variables_from}
 use Rattle.ci_machine_pipelines.proofs.layers.all_variables.Given as goal
 
 -- the variables so far, and those of the jobs that are left, are those of all

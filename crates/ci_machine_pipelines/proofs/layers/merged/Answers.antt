@@ -1,5 +1,5 @@
 use Rattle.std.proofs.Common.{List, ap, ◌∙◌}
-use Rattle.ci_values.specs.Layers.{layer_view}
+use Rattle.ci_machine_steps.specs.Prelude.{layer_view}
 use Rattle.ci_machine_pipelines.proofs.Merging.{Word, onto, onto_none, onto_further}
 use Rattle.ci_machine_pipelines.proofs.layers.merged.Goals as goal
 

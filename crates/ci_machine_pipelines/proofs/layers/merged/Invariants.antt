@@ -1,6 +1,5 @@
 use Rattle.std.proofs.Common.{◌≡◌, vec_len}
-use Rattle.ci_values.specs.Layers.{layer_view}
-use Rattle.ci_machine_steps.specs.Pipelines.{merged}
+use Rattle.ci_machine_steps.specs.Prelude.{layer_view, merged}
 use Rattle.ci_machine_pipelines.proofs.Merging.{onto}
 use Rattle.ci_machine_pipelines.proofs.layers.merged.Given as goal
 

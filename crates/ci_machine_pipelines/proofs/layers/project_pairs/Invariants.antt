@@ -1,5 +1,5 @@
 use Rattle.std.proofs.Common.{◌≡◌, ◌++◌, drop, map}
-use Rattle.ci_values.specs.Layers.{layer_view}
+use Rattle.ci_machine_steps.specs.Prelude.{layer_view}
 use Rattle.ci_machine_pipelines.proofs.layers.project_pairs.Given as goal
 
 -- the pairs so far, and those of the variables that are left, are those of all

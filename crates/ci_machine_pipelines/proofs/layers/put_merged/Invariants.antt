@@ -1,6 +1,5 @@
 use Rattle.std.proofs.Common.{◌≡◌, ◌++◌, map}
-use Rattle.ci_values.specs.Layers.{layer_view}
-use Rattle.ci_machine_steps.specs.Pipelines.{variable}
+use Rattle.ci_machine_steps.specs.Prelude.{layer_view, variable}
 use Rattle.ci_machine_pipelines.proofs.layers.put_merged.Given as goal
 
 -- the variables so far, and those of the names that are left, are all of them

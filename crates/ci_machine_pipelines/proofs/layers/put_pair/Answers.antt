@@ -1,5 +1,5 @@
 use Rattle.std.proofs.Common.{ap, ◌∙◌}
-use Rattle.ci_values.specs.Layers.{layer_view}
+use Rattle.ci_machine_steps.specs.Prelude.{layer_view}
 use Rattle.ci_machine_pipelines.proofs.Merging.{name_put}
 use Rattle.ci_machine_pipelines.proofs.layers.put_pair.Goals as goal
 

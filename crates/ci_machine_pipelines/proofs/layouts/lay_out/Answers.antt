@@ -1,5 +1,5 @@
 use Rattle.std.proofs.Common.{subst, ◌∙◌}
-use Rattle.ci_graph_layout.specs.Inclusion.{Given}
+use Rattle.ci_graph_layout.specs.Prelude.{Given}
 use Rattle.ci_machine_pipelines.specs.Creations.{origin, LaysOut}
 use Rattle.ci_machine_pipelines.proofs.Laying.{pipeline_within, jobs_within, jobs_ascend}
 use Rattle.ci_machine_pipelines.proofs.layouts.lay_out.Goals as goal

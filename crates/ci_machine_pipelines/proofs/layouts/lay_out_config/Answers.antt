@@ -1,9 +1,7 @@
-use Rattle.std.specs.Prelude.{Ok, Err}
-use Rattle.std.proofs.Common.{subst}
-use Rattle.ci_config.specs.View.{config_view}
-use Rattle.ci_graph_layout.specs.Inclusion.{Given}
-use Rattle.ci_graph_layout.specs.Plans.{plan_view, Gives}
-use Rattle.ci_machine_steps.specs.Pipelines.{planned}
+use Rattle.std.proofs.Common.{Ok, Err, subst}
+use Rattle.ci_graph_layout.specs.Prelude.{config_view, Given, plan_view}
+use Rattle.ci_graph_layout.specs.Plans.{Gives}
+use Rattle.ci_machine_steps.specs.Prelude.{planned}
 use Rattle.ci_machine_pipelines.specs.Creations.{origin_view}
 use Rattle.ci_machine_pipelines.proofs.Laying.{not_planned}
 use Rattle.ci_machine_pipelines.proofs.layouts.lay_out_config.Goals as goal

@@ -1,13 +1,8 @@
-use Rattle.std.proofs.Common.{◌≡◌, false, ap, sym, subst, ◌∙◌, rules}
-use Rattle.std.specs.Prelude.{nat_le, sum_by}
-use Rattle.ci_expr.specs.Answered.{AreAnswered, RefusesLooks}
-use Rattle.ci_expr.specs.Built.{look_cost, looks_view}
-use Rattle.ci_yaml_lines.specs.TreeView.{value_view}
-use Rattle.ci_config.specs.View.{config_view}
-use Rattle.ci_graph_layout.specs.Searches.{all_looks}
-use Rattle.ci_graph_layout.specs.View.{given_view}
+use Rattle.std.proofs.Common.{◌≡◌, false, ap, sym, subst, ◌∙◌, rules, nat_le, sum_by}
+use Rattle.ci_graph_layout.specs.Prelude.{AreAnswered, RefusesLooks, look_cost, looks_view, config_view, all_looks, given_view}
+use Rattle.ci_config.specs.Prelude.{value_view}
 use Rattle.ci_graph_layout.specs.declared.limits.TheConstants.{MAX_SEARCH_COST}
-use Rattle.ci_machine_steps.specs.Files.{configures}
+use Rattle.ci_machine_steps.specs.Prelude.{configures}
 use Rattle.ci_machine_pipelines.specs.Creations.{origin_view, plan_fault}
 use Rattle.ci_machine_pipelines.proofs.Laying.{misconfigured, unaffordable, not_looked_for}
 use Rattle.ci_machine_pipelines.proofs.layouts.lay_out_tree.Goals as goal

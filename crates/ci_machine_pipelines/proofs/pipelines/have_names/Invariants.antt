@@ -1,5 +1,5 @@
 use Rattle.std.proofs.Common.{◌≡◌, drop}
-use Rattle.ci_machine_steps.specs.Pipelines.{have_names}
+use Rattle.ci_machine_steps.specs.Prelude.{have_names}
 use Rattle.ci_machine_pipelines.proofs.pipelines.have_names.Given as goal
 
 -- the names behind those that were looked at decide

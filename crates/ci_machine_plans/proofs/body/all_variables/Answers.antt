@@ -1,5 +1,5 @@
 use Rattle.std.proofs.Common.{◌≡◌, ◌∙◌}
-use Rattle.ci_machine.specs.Bodies.{with_default}
+use Rattle.ci_machine_steps.specs.Prelude.{with_default}
 use Rattle.ci_machine_plans.proofs.body.all_variables.Goals as goal
 
 pub returns : goal.returns

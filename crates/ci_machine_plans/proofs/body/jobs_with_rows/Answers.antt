@@ -2,7 +2,7 @@ use Rattle.std.proofs.Common.{List, ℕ, ◌∙◌, ap, arith, map}
 use Rattle.serde_json.specs.Data.{array}
 use Rattle.serde_json.specs.View.{view, items_of}
 use Rattle.serde_json.proofs.Views.{view-Array}
-use Rattle.ci_machine.specs.Bodies.{job_data}
+use Rattle.ci_machine_steps.specs.Prelude.{job_data}
 use Rattle.ci_machine_plans.proofs.Bodies.{pushed_as, jobs_further, jobs_ended}
 use Rattle.ci_machine_plans.proofs.body.jobs_with_rows.Goals as goal
 

@@ -1,6 +1,6 @@
 use Rattle.std.proofs.Common.{◌≡◌, ◌++◌, drop, map}
 use Rattle.serde_json.specs.View.{view}
-use Rattle.ci_machine.specs.Bodies.{jobs_data}
+use Rattle.ci_machine_steps.specs.Prelude.{jobs_data}
 use Rattle.ci_machine_plans.proofs.body.jobs_with_rows.Given as goal
 
 -- the jobs so far, and those that are left, are all of them

@@ -1,7 +1,6 @@
 use Rattle.std.proofs.Common.{length, sym, ap, ◌∙◌}
 use Rattle.std.proofs.lemmas.List.{length-map}
-use Rattle.ci_board.specs.PipelineStatus.{pipeline_status}
-use Rattle.ci_board.specs.Rows.{statuses}
+use Rattle.ci_machine_steps.specs.Prelude.{pipeline_status, statuses}
 use Rattle.ci_machine_plans.proofs.body.status_of.Goals as goal
 
 pub pipeline_status-requires-clause-facts : goal.pipeline_status-requires-clause-facts

@@ -2,7 +2,7 @@ use Rattle.std.proofs.Common.{◌≡◌, ◌∙◌, arith, ap, map}
 use Rattle.std.proofs.lemmas.Grind.{common_steps}
 use Rattle.serde_json.specs.Data.{array}
 use Rattle.serde_json.specs.View.{view, items_of}
-use Rattle.ci_machine.specs.Bodies.{variable_data}
+use Rattle.ci_machine_steps.specs.Prelude.{variable_data}
 use Rattle.serde_json.proofs.Views.{view-Array}
 use Rattle.ci_machine_plans.proofs.body.variables.Goals as goal
 

@@ -1,6 +1,6 @@
 use Rattle.std.proofs.Common.{◌≡◌, map, take}
 use Rattle.serde_json.specs.View.{view}
-use Rattle.ci_machine.specs.Bodies.{variable_data}
+use Rattle.ci_machine_steps.specs.Prelude.{variable_data}
 use Rattle.ci_machine_plans.proofs.body.variables.Given as goal
 
 abbrev pub invariant-loop-one : goal.invariant-loop-one

@@ -1,6 +1,6 @@
 use Rattle.std.proofs.Common.{◌≡◌, ◌++◌, drop, map}
 use Rattle.serde_json.specs.View.{view}
-use Rattle.ci_machine.specs.Listings.{told_jobs}
+use Rattle.ci_machine_steps.specs.Prelude.{told_jobs}
 use Rattle.ci_machine_plans.proofs.listed_jobs.jobs_value.Given as goal
 
 -- the jobs so far, and those that are left, are all of them

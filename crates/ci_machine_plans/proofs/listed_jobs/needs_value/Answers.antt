@@ -3,7 +3,7 @@ use Rattle.std.proofs.lemmas.Grind.{common_steps}
 use Rattle.serde_json.specs.Data.{array, number, unsigned}
 use Rattle.serde_json.specs.View.{view, items_of}
 use Rattle.serde_json.proofs.Views.{view-Array}
-use Rattle.ci_machine.specs.Listings.{needs_among}
+use Rattle.ci_machine_steps.specs.Prelude.{needs_among}
 use Rattle.ci_machine_plans.proofs.listed_jobs.needs_value.Goals as goal
 
 pub returns : goal.returns

@@ -1,7 +1,7 @@
 use Rattle.std.proofs.Common.{◌≡◌, map, take}
 use Rattle.serde_json.specs.Data.{number, unsigned}
 use Rattle.serde_json.specs.View.{view}
-use Rattle.ci_machine.specs.Listings.{needs_among}
+use Rattle.ci_machine_steps.specs.Prelude.{needs_among}
 use Rattle.ci_machine_plans.proofs.listed_jobs.needs_value.Given as goal
 
 -- the jobs so far that the job waits for

@@ -3,7 +3,7 @@ use Rattle.std.proofs.lemmas.Grind.{common_steps}
 use Rattle.serde_json.specs.Data.{array}
 use Rattle.serde_json.specs.View.{view, items_of}
 use Rattle.serde_json.proofs.Views.{view-Array}
-use Rattle.ci_machine.specs.Listings.{listed_pipeline_data}
+use Rattle.ci_machine_steps.specs.Prelude.{listed_pipeline_data}
 use Rattle.ci_machine_plans.proofs.listings.pipelines_value.Goals as goal
 
 pub loop-pipeline-preserved : goal.loop-pipeline-preserved

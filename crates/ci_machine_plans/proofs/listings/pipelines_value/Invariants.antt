@@ -1,6 +1,6 @@
 use Rattle.std.proofs.Common.{◌≡◌, map, take}
 use Rattle.serde_json.specs.View.{view}
-use Rattle.ci_machine.specs.Listings.{listed_pipeline_data}
+use Rattle.ci_machine_steps.specs.Prelude.{listed_pipeline_data}
 use Rattle.ci_machine_plans.proofs.listings.pipelines_value.Given as goal
 
 abbrev pub invariant-loop-pipeline : goal.invariant-loop-pipeline

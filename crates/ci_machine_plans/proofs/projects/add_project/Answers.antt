@@ -1,5 +1,5 @@
 use Rattle.std.proofs.Common.{◌≡◌}
-use Rattle.ci_machine_steps.specs.Projects.{made_project, add_project}
+use Rattle.ci_machine_steps.specs.Prelude.{made_project, add_project}
 use Rattle.ci_machine_plans.specs.Refusals.{unmade}
 use Rattle.ci_machine_plans.proofs.projects.add_project.Goals as goal
 

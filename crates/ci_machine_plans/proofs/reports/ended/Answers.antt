@@ -1,13 +1,6 @@
-use Rattle.std.specs.Prelude.{◌≡◌, List, Result, Ok, Err}
-use Rattle.std.proofs.Common.{ap, ◌∙◌}
+use Rattle.std.proofs.Common.{◌≡◌, List, Result, Ok, Err, ap, ◌∙◌}
 use Rattle.std.specs.Result.{result_map_both}
-use Rattle.ci_values.specs.declared.attempts.AttemptState.{AttemptState}
-use Rattle.ci_machine.specs.declared.records.Attempt.{Attempt}
-use Rattle.ci_machine.specs.declared.lease.LeaseFault.{LeaseFault}
-use Rattle.ci_machine.specs.declared.change.RowChange.{RowChange}
-use Rattle.ci_machine.specs.declared.reply.Reply.{Reply}
-use Rattle.ci_machine.specs.Reply.{status_of_state}
-use Rattle.ci_machine.specs.Leases.{finished, after_final}
+use Rattle.ci_machine_steps.specs.Prelude.{AttemptState, Attempt, LeaseFault, RowChange, Reply, status_of_state, finished, after_final}
 use Rattle.ci_machine_steps.specs.Reports as reports
 use Rattle.ci_machine_plans.proofs.reports.ended.Goals as goal
 

@@ -1,6 +1,6 @@
 use Rattle.std.proofs.Common.{◌∙◌, sym, ◌==◌}
 use Rattle.std.proofs.lemmas.List.Sums.{length-filter}
-use Rattle.ci_machine.specs.declared.records.Attempt.{Attempt}
+use Rattle.ci_machine_steps.specs.Prelude.{Attempt}
 use Rattle.ci_machine_plans.proofs.retries.attempts_of.Goals as goal
 
 pub returns : goal.returns

@@ -1,6 +1,5 @@
-use Rattle.std.specs.Option.{option_copied}
-use Rattle.std.proofs.Common.{◌≡◌}
-use Rattle.ci_machine_steps.specs.Runners.{made_runner, add_runner}
+use Rattle.std.proofs.Common.{option_copied, ◌≡◌}
+use Rattle.ci_machine_steps.specs.Prelude.{made_runner, add_runner}
 use Rattle.ci_machine_plans.specs.Refusals.{unmade}
 use Rattle.ci_machine_plans.proofs.runners.add_runner.Goals as goal
 

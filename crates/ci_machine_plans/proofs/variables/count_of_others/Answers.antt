@@ -1,7 +1,7 @@
 use Rattle.std.proofs.Common.{◌+◌, ◌∙◌, ap, sym, not}
 use Rattle.std.specs.Str.{bytes_eq}
 use Rattle.std.proofs.lemmas.List.Sums.{length-filter}
-use Rattle.ci_machine.specs.declared.records.Variable.{Variable}
+use Rattle.ci_machine_steps.specs.Prelude.{Variable}
 use Rattle.ci_machine_plans.proofs.variables.count_of_others.Goals as goal
 
 pub returns : goal.returns

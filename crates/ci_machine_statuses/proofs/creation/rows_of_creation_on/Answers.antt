@@ -1,8 +1,7 @@
-use Rattle.std.proofs.Common.{length, sym, ap, subst, ◌∙◌}
-use Rattle.std.specs.Ordering.{nat_cmp}
+use Rattle.std.proofs.Common.{length, sym, ap, subst, ◌∙◌, nat_cmp}
 use Rattle.std.specs.List.Sorted.{IsStrictlySortedBy}
 use Rattle.ci_machine_steps.proofs.Sound.{sound}
-use Rattle.ci_machine.specs.Statuses.{pairs_among, predecessors_by}
+use Rattle.ci_machine_steps.specs.Prelude.{pairs_among, predecessors_by}
 use Rattle.ci_machine_statuses.proofs.Made.{new_board}
 use Rattle.ci_machine_statuses.proofs.creation.rows_of_creation_on.Goals as goal
 

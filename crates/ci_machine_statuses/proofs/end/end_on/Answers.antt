@@ -1,8 +1,6 @@
 use Rattle.std.proofs.Common.{refl, subst, ap, ◌∙◌, ◌<◌, ◌≡◌, length, map, sym, slice_index_or, [], ◌∷◌}
-use Rattle.ci_graph.specs.JobGraph.{JobGraph}
-use Rattle.ci_board.specs.PipelineStatus.{pipeline_status}
-use Rattle.ci_board.specs.Rows.{AreRows, BoardState, replaced, statuses}
-use Rattle.ci_machine.specs.Statuses.{facts_of, rows_of}
+use Rattle.ci_machine.specs.Prelude.{JobGraph}
+use Rattle.ci_machine_steps.specs.Prelude.{pipeline_status, AreRows, BoardState, replaced, statuses, facts_of, rows_of}
 use Rattle.ci_machine_steps.proofs.Sound.{sound}
 use Rattle.ci_machine_statuses.specs.Boards.{changed_rows}
 use Rattle.ci_machine_statuses.proofs.Ends.{ends}

@@ -1,5 +1,5 @@
 use Rattle.std.proofs.Common.{◌≡◌, map, take}
-use Rattle.ci_machine.specs.Groups.{held_claim}
+use Rattle.ci_machine_steps.specs.Prelude.{held_claim}
 use Rattle.ci_machine_statuses.proofs.groups.claims_of.Given as goal
 
 -- the claims so far

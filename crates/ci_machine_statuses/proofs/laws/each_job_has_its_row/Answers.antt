@@ -2,7 +2,7 @@ use Rattle.ci_machine.proofs.Keyed.{has_from_contains}
 use Rattle.ci_machine_steps.proofs.Sound.{sound}
 use Rattle.ci_machine_statuses.proofs.RowPuts.{its_row}
 use Rattle.ci_machine_statuses.proofs.Joint.{board_rises}
-use Rattle.ci_machine_statuses.proofs.Pages.{its_row_found}
+use Rattle.ci_machine_statuses.proofs.PendingRows.{its_row_found}
 use Rattle.ci_machine_statuses.proofs.laws.each_job_has_its_row.Goals as goal
 
 pub returns-clause-row : goal.returns-clause-row

@@ -1,6 +1,5 @@
 use Rattle.std.proofs.Common.{refl, sym, subst}
-use Rattle.ci_machine.specs.State.{State, without_all}
-use Rattle.ci_machine.specs.Statuses.{numbers_of, AreBoard}
+use Rattle.ci_machine_steps.specs.Prelude.{State, without_all, numbers_of, AreBoard}
 use Rattle.ci_machine_steps.proofs.Pruned.{pruned_state}
 use Rattle.ci_machine_steps.proofs.Sound.{sound}
 use Rattle.ci_machine_statuses.proofs.Pruning.{board_left}

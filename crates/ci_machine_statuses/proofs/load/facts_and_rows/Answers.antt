@@ -1,9 +1,7 @@
-use Rattle.std.proofs.Common.{sym, ap, subst, ◌≡◌, ◌∙◌, true, map, All}
-use Rattle.std.specs.Ordering.{nat_cmp}
+use Rattle.std.proofs.Common.{sym, ap, subst, ◌≡◌, ◌∙◌, true, map, All, nat_cmp}
 use Rattle.std.specs.List.Sorted.{IsStrictlySortedBy}
-use Rattle.ci_graph.specs.Lists.{is_among}
-use Rattle.ci_machine.specs.declared.records.BoardRow.{BoardRow}
-use Rattle.ci_machine.specs.Statuses.{row_for}
+use Rattle.ci_machine.specs.Prelude.{is_among}
+use Rattle.ci_machine_steps.specs.Prelude.{BoardRow, row_for}
 use Rattle.ci_machine_steps.proofs.Sound.{sound}
 use Rattle.ci_machine_statuses.proofs.Found.{passed_on}
 use Rattle.ci_machine_statuses.proofs.Loaded.{numbers_ascend, rows_ascend, all_facts, all_rows}

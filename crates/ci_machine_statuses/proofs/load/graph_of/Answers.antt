@@ -1,7 +1,7 @@
 use Rattle.std.proofs.Common.{length, ap, subst, ◌∙◌}
 use Rattle.std.proofs.lemmas.List.{length-map}
-use Rattle.ci_graph.specs.Pairs.{IsAcyclic}
-use Rattle.ci_machine.specs.Statuses.{predecessors_by}
+use Rattle.ci_machine.specs.Prelude.{IsAcyclic}
+use Rattle.ci_machine_steps.specs.Prelude.{predecessors_by}
 use Rattle.ci_machine_statuses.proofs.Graphs.{predecessors_are}
 use Rattle.ci_machine_statuses.proofs.load.graph_of.Goals as goal
 

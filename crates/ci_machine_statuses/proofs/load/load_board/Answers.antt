@@ -1,7 +1,6 @@
-use Rattle.std.proofs.Common.{sym, ap, subst, ◌∙◌, map}
-use Rattle.std.specs.Ordering.{nat_cmp}
+use Rattle.std.proofs.Common.{sym, ap, subst, ◌∙◌, map, nat_cmp}
 use Rattle.std.specs.List.Sorted.{IsStrictlySortedBy}
-use Rattle.ci_machine.specs.Statuses.{row_for}
+use Rattle.ci_machine_steps.specs.Prelude.{row_for}
 use Rattle.ci_machine_steps.proofs.Sound.{sound}
 use Rattle.ci_machine_statuses.proofs.Loaded.{is_board}
 use Rattle.ci_machine_statuses.proofs.load.load_board.Goals as goal

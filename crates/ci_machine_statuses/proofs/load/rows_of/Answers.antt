@@ -1,5 +1,4 @@
-use Rattle.std.proofs.Common.{sym, subst, ◌∙◌, arith}
-use Rattle.std.specs.Ordering.{nat_cmp}
+use Rattle.std.proofs.Common.{sym, subst, ◌∙◌, arith, nat_cmp}
 use Rattle.std.specs.List.Sorted.{IsStrictlySortedBy}
 use Rattle.ci_machine_statuses.proofs.Found.{row_pushed, longer}
 use Rattle.ci_machine_statuses.proofs.load.rows_of.Goals as goal

@@ -1,7 +1,6 @@
-use Rattle.std.proofs.Common.{◌≡◌, length, map, take}
-use Rattle.std.specs.Ordering.{nat_cmp}
+use Rattle.std.proofs.Common.{◌≡◌, length, map, take, nat_cmp}
 use Rattle.std.specs.List.Sorted.{IsStrictlySortedBy}
-use Rattle.ci_machine.specs.Statuses.{row_for}
+use Rattle.ci_machine_steps.specs.Prelude.{row_for}
 use Rattle.ci_machine_statuses.proofs.load.rows_of.Given as goal
 
 -- the rows of the numbers so far

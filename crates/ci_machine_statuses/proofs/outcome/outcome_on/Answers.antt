@@ -1,5 +1,5 @@
 use Rattle.std.proofs.Common.{refl, sym, ap, subst, ◌∙◌, length, map}
-use Rattle.ci_board.specs.Rows.{AreRows, replaced}
+use Rattle.ci_machine_steps.specs.Prelude.{AreRows, replaced}
 use Rattle.ci_machine_steps.proofs.Sound.{sound}
 use Rattle.ci_machine_statuses.specs.Acts.{is_acted_at, facts_change}
 use Rattle.ci_machine_statuses.specs.Boards.{changed_rows}

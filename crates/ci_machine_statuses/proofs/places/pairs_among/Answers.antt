@@ -1,8 +1,7 @@
 use Rattle.std.proofs.Common.{◌<◌, length, ℕ, arith, sym, ap, subst, ◌∙◌}
 use Rattle.std.proofs.lemmas.Bool.{both_ways}
 use Rattle.std.proofs.lemmas.List.Elements.{All-push}
-use Rattle.ci_graph.specs.Lists.{is_among}
-use Rattle.ci_graph.specs.Pairs.{AreWithin}
+use Rattle.ci_machine.specs.Prelude.{is_among, AreWithin}
 use Rattle.ci_machine_statuses.proofs.Positions.{not_placed, named_more, pair_more, pair_less}
 use Rattle.ci_machine_statuses.proofs.places.pairs_among.Goals as goal
 use Rattle.ci_machine_statuses.proofs.places.pairs_among.Goals.{in-Some+in_ok-pair_at+in_ok-push, in_default}

@@ -1,8 +1,7 @@
-use Rattle.std.proofs.Common.{◌≡◌, length, take}
-use Rattle.std.specs.Ordering.{nat_cmp}
+use Rattle.std.proofs.Common.{◌≡◌, length, take, nat_cmp}
 use Rattle.std.specs.List.Sorted.{IsStrictlySortedBy}
-use Rattle.ci_graph.specs.Pairs.{AreWithin}
-use Rattle.ci_machine.specs.Statuses.{pairs_among}
+use Rattle.ci_machine.specs.Prelude.{AreWithin}
+use Rattle.ci_machine_steps.specs.Prelude.{pairs_among}
 use Rattle.ci_machine_statuses.specs.Boards.{AreNamed}
 use Rattle.ci_machine_statuses.proofs.places.pairs_among.Given as goal
 

@@ -1,6 +1,5 @@
-use Rattle.std.specs.Prelude.{IfSome, All, List}
-use Rattle.std.proofs.Common.{subst, sym}
-use Rattle.ci_machine.specs.State.{changed}
+use Rattle.std.proofs.Common.{IfSome, All, List, subst, sym}
+use Rattle.ci_machine_steps.specs.Prelude.{changed}
 use Rattle.ci_memory.specs.declared.newest.NewestList.{NewestList}
 use Rattle.ci_memory.specs.Newest.{IsList}
 use Rattle.ci_memory.proofs.Listed.{left_lists}

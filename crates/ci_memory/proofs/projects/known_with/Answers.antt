@@ -1,5 +1,4 @@
-use Rattle.std.specs.Prelude.{IfSome, All}
-use Rattle.std.proofs.Common.{subst}
+use Rattle.std.proofs.Common.{IfSome, All, subst}
 use Rattle.std.proofs.lemmas.Option.{IfSome_then}
 use Rattle.ci_memory.specs.Projects.{IsFound}
 use Rattle.ci_memory.proofs.Finds.{found_by}

@@ -1,7 +1,5 @@
-use Rattle.std.specs.Prelude.{IfSome, All, List}
-use Rattle.std.proofs.Common.{subst, sym}
-use Rattle.ci_machine.specs.declared.records.Project.{Project}
-use Rattle.ci_machine.specs.State.{changed}
+use Rattle.std.proofs.Common.{IfSome, All, List, subst, sym}
+use Rattle.ci_machine_steps.specs.Prelude.{Project, changed}
 use Rattle.ci_memory.specs.Projects.{IsFound}
 use Rattle.ci_memory.proofs.Finds.{left_found}
 use Rattle.ci_memory.proofs.projects.known_without.Goals as goal

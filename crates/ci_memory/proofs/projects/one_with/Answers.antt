@@ -1,5 +1,4 @@
-use Rattle.std.specs.Prelude.{Some}
-use Rattle.std.proofs.Common.{sym, ap, ◌∙◌}
+use Rattle.std.proofs.Common.{Some, sym, ap, ◌∙◌}
 use Rattle.std.proofs.lemmas.Option.{IfSome_then}
 use Rattle.ci_memory.proofs.Finds.{found_again}
 use Rattle.ci_memory.proofs.projects.one_with.Goals as goal

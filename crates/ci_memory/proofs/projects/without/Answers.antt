@@ -1,7 +1,6 @@
-use Rattle.std.specs.Prelude.{not}
-use Rattle.std.proofs.Common.{rules}
+use Rattle.std.proofs.Common.{not, rules}
 use Rattle.std.proofs.lemmas.Fn.{filter_same}
-use Rattle.ci_machine.specs.declared.records.Project.{Project}
+use Rattle.ci_machine_steps.specs.Prelude.{Project}
 use Rattle.ci_memory.specs.Projects.{is_of_project}
 use Rattle.ci_memory.proofs.projects.without.Goals as goal
 

@@ -1,9 +1,6 @@
-use Rattle.std.specs.Prelude.{◌≡◌, IfOk}
-use Rattle.std.proofs.Common.{sym, subst}
-use Rattle.ci_machine.specs.Kept.{Kept}
-use Rattle.ci_machine.specs.Lookups.{next_of}
-use Rattle.ci_machine.specs.declared.change.Counter.TheVariants as counter
-use Rattle.ci_store.specs.Store.{UnlessBroken}
+use Rattle.std.proofs.Common.{◌≡◌, IfOk, sym, subst}
+use Rattle.ci_machine_steps.specs.Prelude.{Kept, next_of, Counter}
+use Rattle.ci_store.specs.Prelude.{UnlessBroken}
 use Rattle.ci_server_lookups.proofs.Loading.{with_both}
 use Rattle.ci_memory_boards.proofs.FreshSound.{fresh_if_sound}
 use Rattle.ci_memory.specs.declared.remembering.Remembering.{Remembering}
@@ -21,7 +18,7 @@ returns g c =
       kept = λ h k held.
           let early = subst g.T.Store.honest same h in
           let was = subst (λ r. UnlessBroken r (held_by c.next-2.new.self k)) c.in_ok-job.was (both.kept early k held.0) in
-          let numbers = subst (λ r. IfOk r (λ n. (c.in_ok-pipeline.pipeline ≡ next_of counter.Pipeline k.state.next) × (n ≡ next_of counter.Job k.state.next))) c.in_ok-job.was (both.answered early k held.0) in
+          let numbers = subst (λ r. IfOk r (λ n. (c.in_ok-pipeline.pipeline ≡ next_of Counter.Pipeline k.state.next) × (n ≡ next_of Counter.Job k.state.next))) c.in_ok-job.was (both.answered early k held.0) in
           ((subst (λ s. g.T.Store.holds s k) (sym same) was.0, c.note_fresh.ensures.right k was.1 (fresh_if_sound _ k held.1.sound held.1.are_board numbers.0 numbers.1)), held.1);
       left = λ h k held. subst (λ s. g.T.Store.leaves s k k) (sym same) (both.left (subst g.T.Store.honest same h) k held.0);
       answered = λ h k held. tt;

@@ -1,7 +1,7 @@
 use Rattle.std.proofs.Common.{ap, subst, take}
 use Rattle.std.proofs.lemmas.List.{take_all}
-use Rattle.ci_machine.specs.State.{State, applied}
-use Rattle.ci_server_lookups.specs.Sheets.{IsRight}
+use Rattle.ci_machine_steps.specs.Prelude.{State, applied}
+use Rattle.ci_server_lookups.specs.Prelude.{IsRight}
 use Rattle.ci_server_lookups.proofs.Changes.{changed_more}
 use Rattle.ci_memory_boards.proofs.Stays.{records_in_order}
 use Rattle.ci_memory_boards.proofs.after.after_changes.Goals as goal

@@ -1,8 +1,7 @@
 use Rattle.std.proofs.Common.{take}
-use Rattle.ci_machine.specs.Kept.{Kept}
-use Rattle.ci_machine.specs.State.{applied}
+use Rattle.ci_machine_steps.specs.Prelude.{Kept, applied}
 use Rattle.ci_memory_boards.specs.Order.{InOrder}
-use Rattle.ci_server_lookups.specs.Sheets.{IsRight}
+use Rattle.ci_server_lookups.specs.Prelude.{IsRight}
 use Rattle.ci_memory_boards.proofs.after.after_changes.Given as goal
 
 -- right after the changes so far

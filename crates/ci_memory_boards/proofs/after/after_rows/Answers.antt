@@ -1,9 +1,7 @@
-use Rattle.std.specs.Prelude.{List}
-use Rattle.std.proofs.Common.{ap, subst, take}
+use Rattle.std.proofs.Common.{List, ap, subst, take}
 use Rattle.std.proofs.lemmas.List.{take_all}
-use Rattle.ci_machine.specs.declared.records.BoardRow.{BoardRow}
-use Rattle.ci_machine.specs.Kept.{put_rows}
-use Rattle.ci_server_lookups.specs.Sheets.{IsRight}
+use Rattle.ci_machine_steps.specs.Prelude.{BoardRow, put_rows}
+use Rattle.ci_server_lookups.specs.Prelude.{IsRight}
 use Rattle.ci_server_lookups.proofs.Changes.{rows_more}
 use Rattle.ci_memory_boards.proofs.Stays.{rows_ascend}
 use Rattle.ci_memory_boards.proofs.after.after_rows.Goals as goal

@@ -1,6 +1,6 @@
 use Rattle.std.proofs.Common.{take}
-use Rattle.ci_machine.specs.Kept.{Kept, put_rows}
-use Rattle.ci_server_lookups.specs.Sheets.{IsRight}
+use Rattle.ci_machine_steps.specs.Prelude.{Kept, put_rows}
+use Rattle.ci_server_lookups.specs.Prelude.{IsRight}
 use Rattle.ci_memory_boards.proofs.Stays.{RowsAscend}
 use Rattle.ci_memory_boards.proofs.after.after_rows.Given as goal
 

@@ -1,8 +1,5 @@
-use Rattle.std.specs.Prelude.{ℕ}
-use Rattle.std.proofs.Common.{sym, ap, ◌∙◌}
-use Rattle.ci_machine.specs.declared.records.Attempt.{Attempt}
-use Rattle.ci_machine.specs.Ranges.{is_within}
-use Rattle.ci_machine.specs.State.{attempt_cmp, put}
+use Rattle.std.proofs.Common.{ℕ, sym, ap, ◌∙◌}
+use Rattle.ci_machine_steps.specs.Prelude.{Attempt, is_within, attempt_cmp, put}
 use Rattle.ci_machine_steps.proofs.Sound.{rising_from_ascend}
 use Rattle.ci_memory_boards.proofs.Lists.{on_some_then}
 use Rattle.ci_memory_boards.proofs.Placing.{filter_put}

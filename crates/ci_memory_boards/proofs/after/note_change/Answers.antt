@@ -1,13 +1,7 @@
-use Rattle.std.specs.Prelude.{◌≡◌, ◌==◌, ℕ, true, All}
-use Rattle.std.proofs.Common.{sym, ap, subst, ◌∙◌}
-use Rattle.ci_machine.specs.declared.change.Record.TheVariants as row
-use Rattle.ci_machine.specs.declared.change.RowChange.{RowChange}
-use Rattle.ci_machine.specs.declared.change.RowChange.TheVariants.{Put}
-use Rattle.ci_machine.specs.declared.records.Job.{Job}
-use Rattle.ci_machine.specs.Ranges.{is_within}
-use Rattle.ci_machine.specs.State.{job_cmp, put, changed}
+use Rattle.std.proofs.Common.{◌≡◌, ◌==◌, ℕ, true, All, sym, ap, subst, ◌∙◌}
+use Rattle.ci_machine_steps.specs.Prelude.{Record, RowChange, Put, Job, is_within, job_cmp, put, changed}
 use Rattle.ci_machine_steps.proofs.Sound.{rising_from_ascend}
-use Rattle.ci_server_lookups.specs.Sheets.{IsRight}
+use Rattle.ci_server_lookups.specs.Prelude.{IsRight}
 use Rattle.ci_server_lookups.specs.declared.sheet.Sheet.{Sheet}
 use Rattle.ci_memory_boards.proofs.Lists.{all_put, both, both_some, on_some_then}
 use Rattle.ci_memory_boards.proofs.Placing.{filter_put}
@@ -26,7 +20,7 @@ returns-in-Some c =
     let its = both (new.pipeline == m.pipeline) (is_within m.first m.last new.id) of.1 in
     on_some_then c.note_job.result (both_some _ _ c.note_job.result c.note_job.ensures.same c.note_job.ensures.jobs) (λ noted k order right.
     subst (λ (x : RowChange). IsRight c.note_job.new.sheet (record k { state = changed x k.state })) (sym of.0)
-    (subst (λ (n : Sheet). IsRight n (record k { state = changed (Put (row.Job new)) k.state })) (sym noted.0)
+    (subst (λ (n : Sheet). IsRight n (record k { state = changed (Put (Record.Job new)) k.state })) (sym noted.0)
     (record {
       jobs = noted.1 ∙ ap (put job_cmp new) right.jobs ∙ sym (filter_put by_id (λ (j : Job). j.pipeline == m.pipeline) new k.state.jobs (rising_from_ascend by_id k.state.jobs order.jobs) its.0);
       inside = subst (All (λ j. is_within m.first m.last j.id ≡ true)) (sym noted.1) (all_put (λ j. is_within m.first m.last j.id ≡ true) job_cmp new m.jobs.items right.inside its.1);

@@ -1,7 +1,6 @@
 use Rattle.std.proofs.Common.{sym, subst, ◌∙◌}
-use Rattle.ci_machine.specs.declared.change.RowChange.{RowChange}
-use Rattle.ci_machine.specs.State.{changed}
-use Rattle.ci_server_lookups.specs.Sheets.{IsRight}
+use Rattle.ci_machine_steps.specs.Prelude.{RowChange, changed}
+use Rattle.ci_server_lookups.specs.Prelude.{IsRight}
 use Rattle.ci_memory_boards.proofs.Lists.{on_some_then}
 use Rattle.ci_memory_boards.proofs.Stays.{stays, put_of}
 use Rattle.ci_memory_boards.proofs.after.note_other.Goals as goal

@@ -1,9 +1,5 @@
-use Rattle.std.specs.Prelude.{◌≡◌, ℕ, false}
-use Rattle.std.proofs.Common.{sym, ap, ◌∙◌}
-use Rattle.ci_machine.specs.declared.records.BoardRow.{BoardRow}
-use Rattle.ci_machine.specs.Kept.{row_cmp}
-use Rattle.ci_machine.specs.Ranges.{is_within}
-use Rattle.ci_machine.specs.State.{put}
+use Rattle.std.proofs.Common.{◌≡◌, ℕ, false, sym, ap, ◌∙◌}
+use Rattle.ci_machine_steps.specs.Prelude.{BoardRow, row_cmp, is_within, put}
 use Rattle.ci_machine_steps.proofs.Sound.{rising_from_ascend}
 use Rattle.ci_memory_boards.proofs.Lists.{on_some_then, other_put}
 use Rattle.ci_memory_boards.proofs.Placing.{filter_put}

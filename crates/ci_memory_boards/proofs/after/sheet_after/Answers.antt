@@ -1,7 +1,6 @@
 use Rattle.std.proofs.Common.{sym, ◌∙◌}
 use Rattle.std.proofs.lemmas.Option.{IfSome_then}
-use Rattle.ci_machine.specs.Kept.{Kept, put_rows, cleared}
-use Rattle.ci_machine.specs.State.{applied}
+use Rattle.ci_machine_steps.specs.Prelude.{Kept, put_rows, cleared, applied}
 use Rattle.ci_server_lookups.proofs.Changes.{state_stays, board_stays}
 use Rattle.ci_memory_boards.proofs.Stays.{right_cleared, right_same, cleared_ascend, cleared_in_order}
 use Rattle.ci_memory_boards.proofs.after.sheet_after.Goals as goal

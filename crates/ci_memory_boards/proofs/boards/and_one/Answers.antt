@@ -1,8 +1,7 @@
-use Rattle.std.specs.Prelude.{IfSome, List, All}
-use Rattle.std.proofs.Common.{subst, sym}
+use Rattle.std.proofs.Common.{IfSome, List, All, subst, sym}
 use Rattle.std.proofs.lemmas.Option.{IfSome_then}
 use Rattle.ci_server_lookups.specs.declared.sheet.Sheet.{Sheet}
-use Rattle.ci_server_lookups.specs.Sheets.{IsRight}
+use Rattle.ci_server_lookups.specs.Prelude.{IsRight}
 use Rattle.ci_memory_boards.proofs.Learned.{all_learned}
 use Rattle.ci_memory_boards.proofs.boards.and_one.Goals as goal
 

@@ -1,9 +1,8 @@
-use Rattle.std.specs.Prelude.{◌==◌, ◌&&◌}
-use Rattle.std.proofs.Common.{sym, ap, ◌∙◌, eqb-true}
+use Rattle.std.proofs.Common.{◌==◌, ◌&&◌, sym, ap, ◌∙◌, eqb-true}
 use Rattle.std.proofs.lemmas.Option.{IfSome_then}
-use Rattle.ci_machine.specs.Ranges.{attempts_within}
+use Rattle.ci_machine_steps.specs.Prelude.{attempts_within}
 use Rattle.ci_server_lookups.specs.declared.sheet.Sheet.{Sheet}
-use Rattle.ci_server_lookups.specs.Sheets.{IsRight}
+use Rattle.ci_server_lookups.specs.Prelude.{IsRight}
 use Rattle.ci_memory_boards.proofs.Lists.{all_found, both}
 use Rattle.ci_memory_boards.proofs.boards.attempts_in.Goals as goal
 

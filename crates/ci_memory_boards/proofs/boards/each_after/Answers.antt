@@ -1,8 +1,8 @@
 use Rattle.std.proofs.lemmas.List.Sorted.{All-permutation}
 use Rattle.std.proofs.lemmas.Option.{IfSome_then}
-use Rattle.ci_machine.specs.Kept.{Kept, cleared, written}
+use Rattle.ci_machine_steps.specs.Prelude.{Kept, cleared, written}
 use Rattle.ci_server_lookups.specs.declared.sheet.Sheet.{Sheet}
-use Rattle.ci_server_lookups.specs.Sheets.{IsRight}
+use Rattle.ci_server_lookups.specs.Prelude.{IsRight}
 use Rattle.ci_memory_boards.proofs.Lists.{all_but_last, all_with}
 use Rattle.ci_memory_boards.proofs.boards.each_after.Goals as goal
 

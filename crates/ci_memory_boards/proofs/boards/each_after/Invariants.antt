@@ -1,9 +1,7 @@
-use Rattle.std.specs.Prelude.{List, All}
-use Rattle.std.proofs.Common.{vec_len}
-use Rattle.ci_machine.specs.declared.change.IndexChange.{IndexChange}
-use Rattle.ci_machine.specs.Kept.{Kept, cleared, written}
+use Rattle.std.proofs.Common.{List, All, vec_len}
+use Rattle.ci_machine_steps.specs.Prelude.{IndexChange, Kept, cleared, written}
 use Rattle.ci_memory_boards.specs.Order.{InOrder}
-use Rattle.ci_server_lookups.specs.Sheets.{IsRight}
+use Rattle.ci_server_lookups.specs.Prelude.{IsRight}
 use Rattle.ci_memory_boards.proofs.boards.each_after.Given as goal
 
 -- those that are left are right for what was kept, and those that are done for what is kept then

@@ -1,5 +1,4 @@
-use Rattle.std.specs.Prelude.{IfSome}
-use Rattle.std.proofs.Common.{subst}
+use Rattle.std.proofs.Common.{IfSome, subst}
 use Rattle.std.proofs.lemmas.Option.{IfSome_then}
 use Rattle.ci_memory_boards.specs.Fresh.{IsFresh}
 use Rattle.ci_memory_boards.proofs.boards.fresh_after.Goals as goal

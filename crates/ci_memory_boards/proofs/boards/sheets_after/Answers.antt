@@ -1,6 +1,5 @@
-use Rattle.std.specs.Prelude.{IfSome, All}
-use Rattle.std.proofs.Common.{subst}
-use Rattle.ci_server_lookups.specs.Sheets.{IsRight}
+use Rattle.std.proofs.Common.{IfSome, All, subst}
+use Rattle.ci_server_lookups.specs.Prelude.{IsRight}
 use Rattle.ci_memory_boards.proofs.boards.sheets_after.Goals as goal
 
 pub returns-in-Some : goal.returns-in-Some

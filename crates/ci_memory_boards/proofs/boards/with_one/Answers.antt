@@ -1,5 +1,4 @@
-use Rattle.std.specs.Prelude.{◌++◌, ◌∷◌, [], List, Contains}
-use Rattle.std.proofs.Common.{sym, ap, subst, ◌∙◌}
+use Rattle.std.proofs.Common.{◌++◌, ◌∷◌, [], List, Contains, sym, ap, subst, ◌∙◌}
 use Rattle.ci_server_lookups.specs.declared.sheet.Sheet.{Sheet}
 use Rattle.ci_memory_boards.proofs.Learned.{under_way_stays_beside}
 use Rattle.ci_memory_boards.proofs.boards.with_one.Goals as goal

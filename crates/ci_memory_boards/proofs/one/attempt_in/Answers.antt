@@ -1,11 +1,9 @@
-use Rattle.std.specs.Prelude.{◌==◌, ℕ, find, Some}
+use Rattle.std.proofs.Common.{◌==◌, ℕ, find, Some, sym, ap, ◌∙◌}
 use Rattle.std.specs.List.{list_any}
-use Rattle.std.proofs.Common.{sym, ap, ◌∙◌}
 use Rattle.std.proofs.lemmas.Option.{IfSome_then}
-use Rattle.ci_machine.specs.declared.records.Attempt.{Attempt}
-use Rattle.ci_machine.specs.Ranges.{is_within}
+use Rattle.ci_machine_steps.specs.Prelude.{Attempt, is_within}
 use Rattle.ci_server_lookups.specs.declared.sheet.Sheet.{Sheet}
-use Rattle.ci_server_lookups.specs.Sheets.{IsRight}
+use Rattle.ci_server_lookups.specs.Prelude.{IsRight}
 use Rattle.ci_memory_boards.proofs.Found.{found_among}
 use Rattle.ci_memory_boards.proofs.Lists.{all_found}
 use Rattle.ci_memory_boards.proofs.one.attempt_in.Goals as goal

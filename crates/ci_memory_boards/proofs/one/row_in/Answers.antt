@@ -1,9 +1,7 @@
-use Rattle.std.specs.Prelude.{◌==◌, ℕ, find}
-use Rattle.std.proofs.Common.{sym, ap, ◌∙◌}
-use Rattle.ci_machine.specs.declared.records.BoardRow.{BoardRow}
-use Rattle.ci_machine.specs.Ranges.{is_within}
+use Rattle.std.proofs.Common.{◌==◌, ℕ, find, sym, ap, ◌∙◌}
+use Rattle.ci_machine_steps.specs.Prelude.{BoardRow, is_within}
 use Rattle.ci_server_lookups.specs.declared.sheet.Sheet.{Sheet}
-use Rattle.ci_server_lookups.specs.Sheets.{IsRight}
+use Rattle.ci_server_lookups.specs.Prelude.{IsRight}
 use Rattle.ci_memory_boards.proofs.Found.{found_among}
 use Rattle.ci_memory_boards.proofs.Lists.{all_found}
 use Rattle.ci_memory_boards.proofs.one.row_in.Goals as goal

@@ -1,6 +1,5 @@
-use Rattle.std.specs.Prelude.{◌≡◌, ◌==◌, ℕ, not, filter, nat_lt, insert, is_ok}
+use Rattle.std.proofs.Common.{◌≡◌, ◌==◌, ℕ, not, filter, nat_lt, insert, is_ok, sym, ap, subst, ◌∙◌}
 use Rattle.std.specs.List.{prefix_len}
-use Rattle.std.proofs.Common.{sym, ap, subst, ◌∙◌}
 use Rattle.std.proofs.lemmas.Bool.{cond-true}
 use Rattle.ci_memory_boards.proofs.Lists.{ok_if_some}
 use Rattle.ci_memory_boards.proofs.Placing.{put_back}

@@ -1,5 +1,4 @@
-use Rattle.std.specs.Prelude.{not, ◌==◌}
-use Rattle.std.proofs.Common.{rules}
+use Rattle.std.proofs.Common.{not, ◌==◌, rules}
 use Rattle.std.proofs.lemmas.Fn.{filter_same}
 use Rattle.ci_memory_boards.proofs.puts.take_out.Goals as goal
 

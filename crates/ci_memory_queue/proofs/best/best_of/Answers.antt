@@ -1,5 +1,4 @@
-use Rattle.std.specs.Prelude.{Ok, ◌<◌, length, slice_index_or}
-use Rattle.std.proofs.Common.{refl, arith}
+use Rattle.std.proofs.Common.{Ok, ◌<◌, length, slice_index_or, refl, arith}
 use Rattle.std.proofs.lemmas.List.{get_or_default}
 use Rattle.ci_memory_queue.specs.declared.queue.Class.{Class}
 use Rattle.ci_server_lookups.proofs.Loading.{so, loads_both}

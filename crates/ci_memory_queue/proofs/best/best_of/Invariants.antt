@@ -1,7 +1,6 @@
-use Rattle.std.proofs.Common.{◌≡◌, take}
-use Rattle.std.specs.Prelude.{ℕ, true, Ok, Some}
-use Rattle.ci_store.specs.Store.{LoadsBy}
-use Rattle.ci_server_lookups.specs.Keeps.{IsKept}
+use Rattle.std.proofs.Common.{◌≡◌, take, ℕ, true, Ok, Some}
+use Rattle.ci_store.specs.Prelude.{LoadsBy}
+use Rattle.ci_server_lookups.specs.Prelude.{IsKept}
 use Rattle.ci_memory_queue.specs.declared.queue.Asks.{Asks}
 use Rattle.ci_memory_queue.specs.Covers.{asks_at, is_pending_at, IsAmong}
 use Rattle.ci_memory_queue.specs.Offers.{IsBest}

@@ -1,5 +1,5 @@
 use Rattle.std.proofs.Common.{sym, ap, subst, ◌∙◌}
-use Rattle.ci_machine.specs.Eligible.{may_run}
+use Rattle.ci_machine_steps.specs.Prelude.{may_run}
 use Rattle.ci_memory_queue.specs.declared.queue.Class.{Class}
 use Rattle.ci_memory_queue.specs.Offers.{IsFirstFree}
 use Rattle.ci_server_lookups.proofs.Loading.{so}

@@ -1,5 +1,4 @@
-use Rattle.std.specs.Prelude.{Contains, slice_set}
-use Rattle.std.proofs.Common.{sym, ap, subst, ◌∙◌}
+use Rattle.std.proofs.Common.{Contains, slice_set, sym, ap, subst, ◌∙◌}
 use Rattle.std.proofs.lemmas.List.{get_or_default}
 use Rattle.ci_memory_queue.specs.declared.queue.Class.{Class}
 use Rattle.ci_memory_queue.proofs.Sets.{on_ok_then, among_one, among_set, set_new}

@@ -1,5 +1,4 @@
-use Rattle.std.specs.Prelude.{◌≡◌, slice_index_or, List, []}
-use Rattle.std.proofs.Common.{subst}
+use Rattle.std.proofs.Common.{◌≡◌, slice_index_or, List, [], subst}
 use Rattle.ci_memory_queue.specs.declared.queue.Asks.{Asks}
 use Rattle.ci_memory_queue.specs.declared.queue.Class.{Class}
 use Rattle.ci_memory_queue.specs.Covers.{IsAmong}

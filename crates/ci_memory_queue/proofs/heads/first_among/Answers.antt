@@ -1,7 +1,6 @@
-use Rattle.std.specs.Prelude.{Ok}
-use Rattle.std.proofs.Common.{refl, sym, subst, ◌∙◌}
+use Rattle.std.proofs.Common.{Ok, refl, sym, subst, ◌∙◌}
 use Rattle.std.proofs.lemmas.List.{take_all}
-use Rattle.ci_machine.specs.declared.records.Job.{Job}
+use Rattle.ci_machine_steps.specs.Prelude.{Job}
 use Rattle.ci_server_lookups.proofs.Loading.{gives, so}
 use Rattle.ci_memory_queue.proofs.Ones.{NoneAhead, there_at, none_of_them, more_behind, first_here}
 use Rattle.ci_memory_queue.proofs.heads.first_among.Goals as goal

@@ -1,8 +1,7 @@
-use Rattle.std.proofs.Common.{◌≡◌, take, ℕ}
-use Rattle.std.specs.Prelude.{Ok}
-use Rattle.ci_machine.specs.Statuses.{jobs_of}
-use Rattle.ci_store.specs.Store.{LoadsBy}
-use Rattle.ci_server_lookups.specs.Keeps.{IsKept}
+use Rattle.std.proofs.Common.{◌≡◌, take, ℕ, Ok}
+use Rattle.ci_machine_steps.specs.Prelude.{jobs_of}
+use Rattle.ci_store.specs.Prelude.{LoadsBy}
+use Rattle.ci_server_lookups.specs.Prelude.{IsKept}
 use Rattle.ci_memory_queue.proofs.Ones.{NoneAhead}
 use Rattle.ci_memory_queue.proofs.heads.first_among.Given as goal
 

@@ -1,5 +1,5 @@
 use Rattle.std.specs.Prelude.{◌≡◌, ℕ, true, length, Contains, Ok, Some}
-use Rattle.ci_store.specs.Store.{LoadsBy}
+use Rattle.ci_store.specs.Prelude.{LoadsBy}
 use Rattle.ci_memory_queue.specs.Covers.{asks_at, is_pending_at}
 use Rattle.ci_memory_queue.proofs.heads.first_pending.Given as goal
 

@@ -1,5 +1,4 @@
-use Rattle.std.specs.Prelude.{Contains, List, ℕ}
-use Rattle.std.proofs.Common.{sym, subst}
+use Rattle.std.proofs.Common.{Contains, List, ℕ, sym, subst}
 use Rattle.ci_memory_queue.proofs.notes.notes_of.Goals as goal
 
 pub returns-clause-newest : goal.returns-clause-newest

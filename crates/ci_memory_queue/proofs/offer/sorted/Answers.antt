@@ -1,5 +1,4 @@
-use Rattle.std.specs.Prelude.{Ok, List, ℕ}
-use Rattle.std.proofs.Common.{refl, sym, subst, ◌∙◌}
+use Rattle.std.proofs.Common.{Ok, List, ℕ, refl, sym, subst, ◌∙◌}
 use Rattle.std.proofs.lemmas.List.{at_drop_all}
 use Rattle.ci_memory_queue.specs.Covers.{Covers}
 use Rattle.ci_server_lookups.proofs.Loading.{so, gives}

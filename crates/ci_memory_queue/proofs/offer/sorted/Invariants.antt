@@ -1,6 +1,5 @@
-use Rattle.std.proofs.Common.{drop}
-use Rattle.std.specs.Prelude.{Ok}
-use Rattle.ci_store.specs.Store.{LoadsBy}
+use Rattle.std.proofs.Common.{drop, Ok}
+use Rattle.ci_store.specs.Prelude.{LoadsBy}
 use Rattle.ci_memory_queue.specs.Covers.{Covers}
 use Rattle.ci_memory_queue.proofs.offer.sorted.Given as goal
 

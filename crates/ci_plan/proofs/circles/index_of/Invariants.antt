@@ -1,5 +1,4 @@
-use Rattle.std.proofs.Common.{take}
-use Rattle.std.specs.Prelude.{Contains}
+use Rattle.std.proofs.Common.{take, Contains}
 use Rattle.ci_plan.proofs.circles.index_of.Given as goal
 
 abbrev pub invariant-loop-i : goal.invariant-loop-i

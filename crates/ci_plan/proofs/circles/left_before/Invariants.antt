@@ -1,5 +1,4 @@
-use Rattle.std.proofs.Common.{◌≡◌, ℕ, false, take}
-use Rattle.std.specs.Prelude.{Contains}
+use Rattle.std.proofs.Common.{◌≡◌, ℕ, false, take, Contains}
 use Rattle.ci_plan.specs.Circles.{is_left}
 use Rattle.ci_plan.proofs.circles.left_before.Given as goal
 

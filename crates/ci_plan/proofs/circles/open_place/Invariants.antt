@@ -1,5 +1,4 @@
-use Rattle.std.proofs.Common.{◌≡◌, ◌<◌, ℕ, true}
-use Rattle.std.specs.Prelude.{Contains}
+use Rattle.std.proofs.Common.{◌≡◌, ◌<◌, ℕ, true, Contains}
 use Rattle.ci_plan.specs.Circles.{is_left}
 use Rattle.ci_plan.proofs.circles.open_place.Given as goal
 

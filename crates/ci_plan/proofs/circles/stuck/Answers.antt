@@ -1,5 +1,4 @@
-use Rattle.std.proofs.Common.{◌≡◌, Bool, true, false, List, sym, subst, rules}
-use Rattle.std.specs.Prelude.{replicate}
+use Rattle.std.proofs.Common.{◌≡◌, Bool, true, false, List, sym, subst, rules, replicate}
 use Rattle.ci_plan.specs.Circles.{is_left, IsClosed, KeepsCycles}
 use Rattle.ci_plan.proofs.Rounds.{one_less, still_kept, all_kept}
 use Rattle.ci_plan.proofs.circles.stuck.Goals as goal

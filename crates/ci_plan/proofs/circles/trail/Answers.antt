@@ -1,5 +1,4 @@
-use Rattle.std.proofs.Common.{◌≡◌, ◌<◌, ◌-◌, ℕ, true, false, List, [], ◌∷◌, ◌++◌, length, drop, take, sym, subst, rules, arith}
-use Rattle.std.specs.Prelude.{Contains, slice_index_or, slice_set as set}
+use Rattle.std.proofs.Common.{◌≡◌, ◌<◌, ◌-◌, ℕ, true, false, List, [], ◌∷◌, ◌++◌, length, drop, take, sym, subst, rules, arith, Contains, slice_index_or, slice_set as set}
 use Rattle.ci_plan.specs.Circles.{is_left, IsCircle}
 use Rattle.ci_plan.proofs.Rounds.{Leads, ArePassed, left_below, one_less, still_fresh, pass_one, leads_push, circle_from, tail_of, made}
 use Rattle.std.specs.Global.{Vec}

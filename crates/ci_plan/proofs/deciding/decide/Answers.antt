@@ -1,10 +1,7 @@
-use Rattle.std.proofs.Common.{◌≡◌, List, Some, map, ap, sym, ◌∙◌}
-use Rattle.std.specs.Prelude.{option_map}
-use Rattle.ci_values.specs.Layers.{Variables, layer_view}
-use Rattle.ci_config.specs.View.{config_view, job_view, rule_view, rules_view}
+use Rattle.std.proofs.Common.{◌≡◌, List, Some, map, ap, sym, ◌∙◌, option_map}
+use Rattle.ci_machine_steps.specs.Prelude.{Variables, layer_view}
+use Rattle.ci_graph_layout.specs.Prelude.{config_view, job_view, rule_view, rules_view, IncludedJob, ByRule, seen, deciding, given_view}
 use Rattle.ci_config.specs.declared.rule.Rule.{Rule}
-use Rattle.ci_graph_layout.specs.Inclusion.{IncludedJob, ByRule, seen, deciding}
-use Rattle.ci_graph_layout.specs.View.{given_view}
 use Rattle.ci_plan.proofs.Taking.{decided_by}
 use Rattle.ci_plan.proofs.deciding.decide.Goals as goal
 

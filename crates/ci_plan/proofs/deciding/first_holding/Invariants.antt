@@ -1,7 +1,5 @@
 use Rattle.std.proofs.Common.{◌≡◌, ◌+◌, drop, map}
-use Rattle.ci_expr.specs.Built.{values_of}
-use Rattle.ci_config.specs.View.{rule_view}
-use Rattle.ci_graph_layout.specs.Inclusion.{deciding}
+use Rattle.ci_graph_layout.specs.Prelude.{values_of, rule_view, deciding}
 use Rattle.ci_plan.specs.Rules.{number_from}
 use Rattle.ci_plan.proofs.deciding.first_holding.Given as goal
 

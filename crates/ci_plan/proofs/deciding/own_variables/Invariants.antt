@@ -1,6 +1,6 @@
 use Rattle.std.proofs.Common.{◌≡◌, ◌++◌, drop, map}
-use Rattle.ci_values.specs.Layers.{layer_view}
-use Rattle.ci_config.specs.View.{variable_view}
+use Rattle.ci_machine_steps.specs.Prelude.{layer_view}
+use Rattle.ci_graph_layout.specs.Prelude.{variable_view}
 use Rattle.ci_plan.proofs.deciding.own_variables.Given as goal
 
 abbrev pub invariant-loop-variable : goal.invariant-loop-variable

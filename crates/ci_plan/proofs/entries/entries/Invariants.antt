@@ -1,7 +1,6 @@
 use Rattle.std.proofs.Common.{◌≡◌, ◌++◌, drop, map}
-use Rattle.ci_values.specs.Layers.{text_view}
-use Rattle.ci_config.specs.View.{config_view}
-use Rattle.ci_graph_layout.specs.View.{given_view}
+use Rattle.ci_machine_steps.specs.Prelude.{text_view}
+use Rattle.ci_graph_layout.specs.Prelude.{config_view, given_view}
 use Rattle.ci_plan.specs.Views.{entry_view, taken_by_stage}
 use Rattle.ci_plan.proofs.entries.entries.Given as goal
 

@@ -1,7 +1,5 @@
 use Rattle.std.proofs.Common.{◌≡◌, ◌++◌, drop, map, filter}
-use Rattle.ci_config.specs.View.{config_view, job_view}
-use Rattle.ci_graph_layout.specs.Layout.{is_of}
-use Rattle.ci_graph_layout.specs.View.{given_view}
+use Rattle.ci_graph_layout.specs.Prelude.{config_view, job_view, is_of, given_view}
 use Rattle.ci_plan.specs.Views.{entry_view, all_taken}
 use Rattle.ci_plan.proofs.entries.put_stage.Given as goal
 

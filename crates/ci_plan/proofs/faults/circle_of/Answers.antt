@@ -1,10 +1,9 @@
 use Rattle.std.proofs.Common.{ℕ, subst, ◌∙◌}
 use Rattle.std.proofs.lemmas.List.{length-map}
-use Rattle.ci_values.specs.Table.{words_view}
-use Rattle.ci_config.specs.View.{job_view}
-use Rattle.ci_graph.specs.Pairs.{AreWithin}
+use Rattle.ci_machine_steps.specs.Prelude.{words_view}
+use Rattle.ci_graph_layout.specs.Prelude.{job_view, without_rules}
+use Rattle.ci_machine.specs.Prelude.{AreWithin}
 use Rattle.ci_graph_layout.proofs.Planned.{pairs_found}
-use Rattle.ci_graph_layout.specs.Inclusion.{without_rules}
 use Rattle.ci_plan.specs.Views.{lined}
 use Rattle.ci_plan.specs.declared.entries.Entry.{Entry}
 use Rattle.ci_plan.proofs.faults.circle_of.Goals as goal

@@ -1,5 +1,5 @@
 use Rattle.std.proofs.Common.{◌≡◌, ◌++◌, drop, flat_map}
-use Rattle.ci_values.specs.Table.{words_view}
+use Rattle.ci_machine_steps.specs.Prelude.{words_view}
 use Rattle.ci_plan.specs.Faults.{later_of}
 use Rattle.ci_plan.specs.Views.{lined}
 use Rattle.ci_plan.proofs.faults.later.Given as goal

@@ -1,8 +1,6 @@
 use Rattle.std.proofs.Common.{◌≡◌, ◌++◌, drop, map, filter}
-use Rattle.ci_values.specs.Table.{words_view}
-use Rattle.ci_config.specs.View.{job_view, need_view}
-use Rattle.ci_graph_layout.specs.Inclusion.{without_rules}
-use Rattle.ci_graph_layout.specs.Fault.{names_later}
+use Rattle.ci_machine_steps.specs.Prelude.{words_view}
+use Rattle.ci_graph_layout.specs.Prelude.{job_view, need_view, without_rules, names_later}
 use Rattle.ci_plan.specs.Faults.{named_need}
 use Rattle.ci_plan.specs.Views.{lined}
 use Rattle.ci_plan.proofs.faults.put_later.Given as goal

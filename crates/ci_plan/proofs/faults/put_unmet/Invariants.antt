@@ -1,7 +1,5 @@
 use Rattle.std.proofs.Common.{◌≡◌, ◌++◌, drop, map, filter}
-use Rattle.ci_config.specs.View.{job_view, need_view}
-use Rattle.ci_graph_layout.specs.Inclusion.{without_rules}
-use Rattle.ci_graph_layout.specs.Fault.{is_unmet}
+use Rattle.ci_graph_layout.specs.Prelude.{job_view, need_view, without_rules, is_unmet}
 use Rattle.ci_plan.specs.Faults.{named_need}
 use Rattle.ci_plan.specs.Views.{lined}
 use Rattle.ci_plan.proofs.faults.put_unmet.Given as goal

@@ -1,5 +1,5 @@
 use Rattle.std.proofs.Common.{◌∙◌}
-use Rattle.ci_values.specs.Table.{words_view}
+use Rattle.ci_machine_steps.specs.Prelude.{words_view}
 use Rattle.ci_plan.proofs.Bare.{ranked_at}
 use Rattle.ci_plan.proofs.faults.rank_at.Goals as goal
 

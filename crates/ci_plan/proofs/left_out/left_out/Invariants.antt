@@ -1,6 +1,5 @@
 use Rattle.std.proofs.Common.{◌≡◌, ◌++◌, drop, map}
-use Rattle.ci_config.specs.View.{config_view, job_view}
-use Rattle.ci_graph_layout.specs.View.{given_view}
+use Rattle.ci_graph_layout.specs.Prelude.{config_view, job_view, given_view}
 use Rattle.ci_plan.specs.Rules.{left_out}
 use Rattle.ci_plan.proofs.left_out.left_out.Given as goal
 

@@ -1,9 +1,7 @@
 use Rattle.std.proofs.Common.{◌≡◌, ◌<◌, List, [], length, get_or, map, subst, ap, ◌∙◌}
-use Rattle.ci_values.specs.Layers.{layer_view}
-use Rattle.ci_yaml_lines.specs.TreeView.{value_view}
-use Rattle.ci_config.specs.View.{config_view, job_view}
-use Rattle.ci_config.specs.declared.job.JobSpec.{JobSpec}
-use Rattle.ci_graph_layout.specs.View.{given_view}
+use Rattle.ci_machine_steps.specs.Prelude.{layer_view}
+use Rattle.ci_config.specs.Prelude.{value_view}
+use Rattle.ci_graph_layout.specs.Prelude.{config_view, job_view, JobSpec, given_view}
 use Rattle.ci_plan.specs.Notes.{of_jobs, each_once}
 use Rattle.ci_plan.proofs.Noting.{job_more}
 use Rattle.ci_plan.proofs.notes.notes.Goals as goal

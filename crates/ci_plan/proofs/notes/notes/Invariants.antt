@@ -1,7 +1,6 @@
 use Rattle.std.proofs.Common.{◌≡◌, [], drop, map}
-use Rattle.ci_yaml_lines.specs.TreeView.{value_view}
-use Rattle.ci_config.specs.View.{config_view, job_view}
-use Rattle.ci_graph_layout.specs.View.{given_view}
+use Rattle.ci_config.specs.Prelude.{value_view}
+use Rattle.ci_graph_layout.specs.Prelude.{config_view, job_view, given_view}
 use Rattle.ci_plan.specs.Notes.{of_jobs, each_once}
 use Rattle.ci_plan.proofs.notes.notes.Given as goal
 

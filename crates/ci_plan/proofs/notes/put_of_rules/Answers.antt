@@ -1,5 +1,5 @@
-use Rattle.ci_values.specs.Layers.{layer_view}
-use Rattle.ci_config.specs.View.{values_view}
+use Rattle.ci_machine_steps.specs.Prelude.{layer_view}
+use Rattle.ci_graph_layout.specs.Prelude.{values_view}
 use Rattle.ci_plan.specs.Notes.{of_rules, each_once}
 use Rattle.ci_plan.proofs.Noting.{rule_more}
 use Rattle.ci_plan.proofs.notes.put_of_rules.Goals as goal

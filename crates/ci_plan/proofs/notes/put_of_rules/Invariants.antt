@@ -1,6 +1,6 @@
 use Rattle.std.proofs.Common.{◌≡◌, ◌+◌, drop}
-use Rattle.ci_values.specs.Layers.{layer_view}
-use Rattle.ci_config.specs.View.{values_view}
+use Rattle.ci_machine_steps.specs.Prelude.{layer_view}
+use Rattle.ci_graph_layout.specs.Prelude.{values_view}
 use Rattle.ci_plan.specs.Notes.{of_rules, each_once}
 use Rattle.ci_plan.proofs.notes.put_of_rules.Given as goal
 

@@ -1,6 +1,5 @@
 use Rattle.std.proofs.Common.{◌≡◌, ℕ, List, map, Err, sym, subst, ap, ◌∙◌, OnOk}
-use Rattle.ci_expr.specs.View.{token_view}
-use Rattle.ci_expr.specs.declared.fault.ExprFault.{ExprFault}
+use Rattle.ci_graph_layout.specs.Prelude.{token_view}
 use Rattle.ci_plan.specs.Notes.{compared, compared_in, with_names}
 use Rattle.ci_plan.proofs.Noting.{Tells, compared_known, compared_none}
 use Rattle.ci_plan.proofs.notes.put_of_text.Goals as goal

@@ -1,5 +1,5 @@
 use Rattle.std.proofs.Common.{◌≡◌, drop, map}
-use Rattle.ci_expr.specs.View.{token_view}
+use Rattle.ci_graph_layout.specs.Prelude.{token_view}
 use Rattle.ci_plan.specs.Notes.{compared, with_names}
 use Rattle.ci_plan.proofs.notes.put_of_tokens.Given as goal
 

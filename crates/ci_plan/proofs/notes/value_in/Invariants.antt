@@ -1,6 +1,6 @@
 use Rattle.std.proofs.Common.{◌≡◌, drop}
-use Rattle.ci_values.specs.Table.{meaning_of}
-use Rattle.ci_config.specs.View.{pairs_view}
+use Rattle.ci_machine_steps.specs.Prelude.{meaning_of}
+use Rattle.ci_graph_layout.specs.Prelude.{pairs_view}
 use Rattle.ci_plan.proofs.notes.value_in.Given as goal
 
 abbrev pub invariant-loop-pair : goal.invariant-loop-pair

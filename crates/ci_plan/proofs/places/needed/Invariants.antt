@@ -1,6 +1,5 @@
 use Rattle.std.proofs.Common.{◌≡◌, ◌++◌, drop, map}
-use Rattle.ci_config.specs.View.{need_view}
-use Rattle.ci_graph_layout.specs.Layout.{needed}
+use Rattle.ci_graph_layout.specs.Prelude.{need_view, needed}
 use Rattle.ci_plan.specs.Views.{lined}
 use Rattle.ci_plan.proofs.places.needed.Given as goal
 

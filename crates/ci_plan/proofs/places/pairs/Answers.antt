@@ -1,8 +1,6 @@
 use Rattle.std.proofs.Common.{◌≡◌, ℕ, ◌+◌, List, ◌++◌, map, drop, ap, sym, ◌∙◌, append_assoc}
-use Rattle.ci_values.specs.Table.{words_view}
-use Rattle.ci_config.specs.View.{job_view}
-use Rattle.ci_graph_layout.specs.Inclusion.{without_rules}
-use Rattle.ci_graph_layout.specs.Layout.{predecessors, pairs_from}
+use Rattle.ci_machine_steps.specs.Prelude.{words_view}
+use Rattle.ci_graph_layout.specs.Prelude.{job_view, without_rules, predecessors, pairs_from}
 use Rattle.ci_plan.specs.Views.{lined}
 use Rattle.ci_plan.proofs.Bare.{pairs_further}
 use Rattle.ci_plan.proofs.places.pairs.Goals as goal

@@ -1,6 +1,6 @@
 use Rattle.std.proofs.Common.{◌≡◌, ◌++◌, drop}
-use Rattle.ci_values.specs.Table.{words_view}
-use Rattle.ci_graph_layout.specs.Layout.{pairs, pairs_from}
+use Rattle.ci_machine_steps.specs.Prelude.{words_view}
+use Rattle.ci_graph_layout.specs.Prelude.{pairs, pairs_from}
 use Rattle.ci_plan.specs.Views.{lined}
 use Rattle.ci_plan.proofs.places.pairs.Given as goal
 

@@ -1,5 +1,5 @@
 use Rattle.std.proofs.Common.{◌≡◌, drop}
-use Rattle.ci_graph_layout.specs.Layout.{place_from}
+use Rattle.ci_graph_layout.specs.Prelude.{place_from}
 use Rattle.ci_plan.specs.Views.{lined}
 use Rattle.ci_plan.proofs.places.place_of.Given as goal
 

@@ -1,6 +1,6 @@
 use Rattle.std.proofs.Common.{◌≡◌, ◌+◌, drop}
-use Rattle.ci_values.specs.Table.{words_view}
-use Rattle.ci_graph_layout.specs.Layout.{rank}
+use Rattle.ci_machine_steps.specs.Prelude.{words_view}
+use Rattle.ci_graph_layout.specs.Prelude.{rank}
 use Rattle.ci_plan.proofs.places.rank.Given as goal
 
 abbrev pub invariant-loop-i : goal.invariant-loop-i

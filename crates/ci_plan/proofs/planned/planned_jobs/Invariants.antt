@@ -1,5 +1,5 @@
 use Rattle.std.proofs.Common.{◌≡◌, ◌++◌, drop, map}
-use Rattle.ci_values.specs.Table.{words_view}
+use Rattle.ci_machine_steps.specs.Prelude.{words_view}
 use Rattle.ci_plan.specs.Views.{entry_view, lined, planned_entry}
 use Rattle.ci_plan.proofs.planned.planned_jobs.Given as goal
 

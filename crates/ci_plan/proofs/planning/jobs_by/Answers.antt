@@ -1,11 +1,8 @@
-use Rattle.std.proofs.Common.{◌≡◌, ℕ, List, Some, None, Ok, map, ap, sym, subst, ◌∙◌}
-use Rattle.std.specs.Prelude.{Option}
+use Rattle.std.proofs.Common.{◌≡◌, ℕ, List, Some, None, Ok, map, ap, sym, subst, ◌∙◌, Option}
 use Rattle.std.specs.Borrow.{Bor}
-use Rattle.ci_values.specs.Table.{words_view}
-use Rattle.ci_config.specs.View.{config_view}
-use Rattle.ci_graph.specs.Pairs.{HasCycle}
-use Rattle.ci_graph_layout.specs.Layout.{pairs}
-use Rattle.ci_graph_layout.specs.View.{given_view}
+use Rattle.ci_machine_steps.specs.Prelude.{words_view}
+use Rattle.ci_graph_layout.specs.Prelude.{config_view, pairs, given_view}
+use Rattle.ci_machine.specs.Prelude.{HasCycle}
 use Rattle.ci_graph_layout.specs.declared.fault.GraphCode.{GraphCode}
 use Rattle.ci_plan.specs.Said.{Lays, laid_out}
 use Rattle.ci_plan.specs.Views.{entry_view, lined, planned_entry}

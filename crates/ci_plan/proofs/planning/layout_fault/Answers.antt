@@ -1,6 +1,5 @@
 use Rattle.std.proofs.Common.{sym, subst}
-use Rattle.ci_config.specs.View.{config_view}
-use Rattle.ci_graph_layout.specs.View.{given_view}
+use Rattle.ci_graph_layout.specs.Prelude.{config_view, given_view}
 use Rattle.ci_plan.specs.Said.{Lays}
 use Rattle.ci_plan.proofs.Layouts.{lays_in}
 use Rattle.ci_plan.proofs.planning.layout_fault.Goals as goal

@@ -1,11 +1,8 @@
-use Rattle.std.proofs.Common.{List, map, ap, ◌∙◌}
-use Rattle.std.specs.Prelude.{flat_map}
+use Rattle.std.proofs.Common.{List, map, ap, ◌∙◌, flat_map}
 use Rattle.ci_plan.specs.Views.{entry_view}
 use Rattle.ci_plan.specs.declared.entries.Entry.{Entry}
 use Rattle.ci_expr.proofs.Answering.{answered_each}
-use Rattle.ci_config.specs.View.{config_view}
-use Rattle.ci_graph_layout.specs.Searches.{job_looks}
-use Rattle.ci_graph_layout.specs.View.{given_view}
+use Rattle.ci_graph_layout.specs.Prelude.{config_view, job_looks, given_view}
 use Rattle.ci_plan.proofs.Taking.{staged}
 use Rattle.ci_plan.proofs.planning.plan_with.Goals as goal
 

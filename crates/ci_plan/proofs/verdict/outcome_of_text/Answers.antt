@@ -1,4 +1,4 @@
-use Rattle.ci_graph_layout.specs.View.{given_view}
+use Rattle.ci_graph_layout.specs.Prelude.{given_view}
 use Rattle.ci_plan.proofs.Saying.{says_refused}
 use Rattle.ci_plan.proofs.verdict.outcome_of_text.Goals as goal
 

@@ -1,6 +1,5 @@
-use Rattle.ci_yaml_lines.specs.TreeView.{value_view}
-use Rattle.ci_config.specs.View.{config_view}
-use Rattle.ci_graph_layout.specs.View.{given_view}
+use Rattle.ci_config.specs.Prelude.{value_view}
+use Rattle.ci_graph_layout.specs.Prelude.{config_view, given_view}
 use Rattle.ci_plan.proofs.Saying.{says_plan, says_fault}
 use Rattle.ci_plan.proofs.verdict.outcome_of_tree.Goals as goal
 

@@ -1,4 +1,4 @@
-use Rattle.ci_server.specs.Holding.{Holds, Leaves}
+use Rattle.ci_server.specs.Prelude.{Holds, Leaves}
 use Rattle.ci_server.proofs.Prunes.{performs_alike}
 use Rattle.ci_server.proofs.events.prune_one.Goals as goal
 

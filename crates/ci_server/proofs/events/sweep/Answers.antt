@@ -1,9 +1,8 @@
 use Rattle.std.proofs.Common.{subst}
 use Rattle.std.proofs.lemmas.Result.{IfOk-at_ok}
-use Rattle.ci_machine.specs.declared.reply.Answer.TheVariants as answer
-use Rattle.ci_machine.specs.declared.request.Event.TheVariants as event
-use Rattle.ci_store.specs.Store.{UnlessBroken}
-use Rattle.ci_server_lookups.specs.Keeps.{IsKept}
+use Rattle.ci_machine_steps.specs.Prelude.{Answer, Event}
+use Rattle.ci_store.specs.Prelude.{UnlessBroken}
+use Rattle.ci_server_lookups.specs.Prelude.{IsKept}
 use Rattle.ci_server.proofs.Keeping.{is_kept}
 use Rattle.ci_server.proofs.Handling.{performed}
 use Rattle.ci_server.proofs.events.sweep.Goals as goal
@@ -18,5 +17,5 @@ returns-clause-performed g c = λ honest s sound held seed.
     let still : g.T.Store.holds c.plan_sweep.new.store k × IsKept k
     = subst (λ r. UnlessBroken r (g.T.Store.holds c.plan_sweep.new.store k × IsKept k)) c.in_ok-planned.was (c.plan_sweep.ensures.kept looked k (held.held, kept)) in
     let plans = IfOk-at_ok _ c.in_ok-planned.was (c.plan_sweep.ensures.answered looked k (held.held, kept)) kept in
-    performed g.T.Store.holds g.T.Store.leaves answer.Swept (event.Sweep, c.args.now, seed) s k held.is_of p.cleared.items p.answer p.changes p.beside c.commit.new.store c.commit.result
+    performed g.T.Store.holds g.T.Store.leaves Answer.Swept (Event.Sweep, c.args.now, seed) s k held.is_of p.cleared.items p.answer p.changes p.beside c.commit.new.store c.commit.result
     plans.made plans.settled c.commit.ensures.answer (c.commit.ensures.ends honest k still.0)

@@ -1,11 +1,7 @@
-use Rattle.std.specs.Prelude.{◌≡◌, Ok, Err, Result}
+use Rattle.std.proofs.Common.{◌≡◌, Ok, Err, Result, subst, sym, ap, ◌∙◌}
 use Rattle.std.specs.Borrow.{Bor}
 use Rattle.std.specs.Result.{result_map_both}
-use Rattle.std.proofs.Common.{subst, sym, ap, ◌∙◌}
-use Rattle.ci_machine.specs.declared.records.Job.{Job}
-use Rattle.ci_machine.specs.declared.reply.Code.{Code}
-use Rattle.ci_machine_steps.specs.Shows.{asked_job}
-use Rattle.ci_machine_steps.specs.Step.{found_job}
+use Rattle.ci_machine_steps.specs.Prelude.{Job, Code, asked_job, found_job}
 use Rattle.ci_server_events.specs.declared.shows.Named.{Named}
 use Rattle.ci_server_events.specs.Acting.{ActsAs}
 use Rattle.ci_server_events.specs.Planning.{PlansFor}

@@ -1,10 +1,7 @@
-use Rattle.std.specs.Prelude.{◌≡◌, [], ◌∷◌, slice_index_or}
-use Rattle.std.proofs.Common.{ap, ◌∙◌}
-use Rattle.ci_board.specs.declared.facts.Row.{Row}
-use Rattle.ci_board.specs.Rows.{row_at}
-use Rattle.ci_machine_steps.specs.Plans.{refused}
-use Rattle.ci_machine_steps.specs.Shows.{job_shown}
-use Rattle.ci_machine_statuses.specs.Acts.{act_changes}
+use Rattle.std.proofs.Common.{◌≡◌, [], ◌∷◌, slice_index_or, ap, ◌∙◌}
+use Rattle.ci_machine_steps.specs.Prelude.{Row, refused, job_shown}
+use Rattle.ci_board.specs.Prelude.{row_at}
+use Rattle.ci_server_lookups.specs.Prelude.{act_changes}
 use Rattle.ci_server_events.specs.declared.planned.Beside.{Beside}
 use Rattle.ci_server_events.specs.Acting.{changes_by}
 use Rattle.ci_server_lookups.proofs.Loading.{on_ok}

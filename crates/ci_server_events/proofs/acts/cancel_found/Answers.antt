@@ -1,8 +1,6 @@
-use Rattle.std.specs.Prelude.{◌≡◌, Some}
-use Rattle.std.proofs.Common.{subst, sym, ◌∙◌}
-use Rattle.ci_machine.specs.declared.records.Pipeline.{Pipeline}
-use Rattle.ci_machine_steps.specs.Cancels.{CancelsSome, cancellable_jobs}
-use Rattle.ci_server_lookups.specs.Records.{IsWhole}
+use Rattle.std.proofs.Common.{◌≡◌, Some, subst, sym, ◌∙◌}
+use Rattle.ci_machine_steps.specs.Prelude.{Pipeline, CancelsSome, cancellable_jobs}
+use Rattle.ci_server_lookups.specs.Prelude.{IsWhole}
 use Rattle.ci_server_events.specs.Planning.{PlansFor}
 use Rattle.ci_server_events.proofs.Acting.{leads, pipeline_there}
 use Rattle.ci_server_events.proofs.Found.{at_ok}

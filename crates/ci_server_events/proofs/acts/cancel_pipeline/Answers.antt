@@ -1,14 +1,7 @@
-use Rattle.std.specs.Prelude.{◌≡◌, Ok, Err, Option, Result}
+use Rattle.std.proofs.Common.{◌≡◌, Ok, Err, Option, Result, subst, sym, ap, ◌∙◌}
 use Rattle.std.specs.Borrow.{Bor}
 use Rattle.std.specs.Result.{result_map_both}
-use Rattle.std.proofs.Common.{subst, sym, ap, ◌∙◌}
-use Rattle.ci_machine.specs.declared.records.Pipeline.{Pipeline}
-use Rattle.ci_machine.specs.declared.records.Project.{Project}
-use Rattle.ci_machine.specs.declared.reply.Code.{Code}
-use Rattle.ci_machine_steps.specs.Cancels.{CancelsPipeline}
-use Rattle.ci_machine_steps.specs.Plans.{asked_project}
-use Rattle.ci_machine_steps.specs.Shows.{asked_pipeline}
-use Rattle.ci_machine_steps.specs.Step.{pipeline_at, found_pipeline}
+use Rattle.ci_machine_steps.specs.Prelude.{Pipeline, Project, Code, CancelsPipeline, asked_project, asked_pipeline, pipeline_at, found_pipeline}
 use Rattle.ci_server_events.specs.Planning.{PlansFor}
 use Rattle.ci_server_lookups.proofs.Loading.{goes_on, so}
 use Rattle.ci_server_events.proofs.Acting.{pipeline_has}

@@ -1,6 +1,5 @@
-use Rattle.std.specs.Prelude.{Some, None}
-use Rattle.std.proofs.Common.{ap, ◌∙◌}
-use Rattle.ci_machine_steps.specs.Sweeps.{sweep}
+use Rattle.std.proofs.Common.{Some, None, ap, ◌∙◌}
+use Rattle.ci_machine_steps.specs.Prelude.{sweep}
 use Rattle.ci_server_events.specs.declared.planned.Beside.{Beside}
 use Rattle.ci_server_events.proofs.Acting.{leads, redundant_planned, ok_same}
 use Rattle.ci_server_events.proofs.Found.{at_ok}

@@ -1,7 +1,5 @@
-use Rattle.std.specs.Prelude.{length}
-use Rattle.std.proofs.Common.{refl, sym, ap, ◌∙◌}
-use Rattle.ci_machine_steps.specs.Cancels.{cancel}
-use Rattle.ci_machine_steps.specs.Shows.{pipeline_shown}
+use Rattle.std.proofs.Common.{length, refl, sym, ap, ◌∙◌}
+use Rattle.ci_machine_steps.specs.Prelude.{cancel, pipeline_shown}
 use Rattle.ci_server_events.specs.declared.planned.Beside.{Beside}
 use Rattle.ci_server_lookups.proofs.Loading.{on_ok}
 use Rattle.ci_server_events.proofs.Acting.{pipeline_planned, pipeline_refused, not_empty, is_empty, ok_same}

@@ -1,10 +1,6 @@
-use Rattle.std.specs.Prelude.{◌<◌, List, ◌++◌, length, map, All, slice_index_or}
-use Rattle.std.proofs.Common.{subst, sym, ap, ◌∙◌}
-use Rattle.ci_machine.specs.declared.records.Job.{Job}
-use Rattle.ci_machine.specs.Bodies.{status_of_jobs}
-use Rattle.ci_machine.specs.Groups.{held_claim}
-use Rattle.ci_machine_statuses.specs.HolderChanges.{of_pipeline, unleased}
-use Rattle.ci_server_lookups.specs.Held.{still_held}
+use Rattle.std.proofs.Common.{◌<◌, List, ◌++◌, length, map, All, slice_index_or, subst, sym, ap, ◌∙◌}
+use Rattle.ci_machine_steps.specs.Prelude.{Job, status_of_jobs, held_claim}
+use Rattle.ci_server_lookups.specs.Prelude.{of_pipeline, unleased, still_held}
 use Rattle.ci_server_events.proofs.Acting.{done_is}
 use Rattle.ci_server_events.proofs.acts.done_among.Goals as goal
 

@@ -1,5 +1,5 @@
 use Rattle.std.proofs.Common.{◌≡◌, map, take, slice_index_or}
-use Rattle.ci_machine.specs.declared.records.Job.{Job}
+use Rattle.ci_machine_steps.specs.Prelude.{Job}
 use Rattle.ci_server_events.proofs.acts.jobs_at.Given as goal
 
 -- the jobs at the places so far

@@ -1,15 +1,6 @@
 use Rattle.std.proofs.Common.{◌≡◌, ℕ, List, Option, Result, Ok, Err, IfOk, subst}
-use Rattle.ci_machine.specs.declared.records.Job.{Job}
-use Rattle.ci_machine.specs.declared.records.Need.{Need}
-use Rattle.ci_machine.specs.declared.records.Attempt.{Attempt}
-use Rattle.ci_machine.specs.declared.records.BoardRow.{BoardRow}
-use Rattle.ci_machine.specs.State.{State}
-use Rattle.ci_machine.specs.Statuses.{AreBoard}
-use Rattle.ci_machine_steps.specs.Sound.{IsSound}
-use Rattle.ci_machine_statuses.specs.Acts.{IsOutcome}
-use Rattle.ci_machine_statuses.specs.Lookups.{AreRecords}
-use Rattle.ci_machine_statuses.specs.declared.act.Act.{Act}
-use Rattle.ci_machine_statuses.specs.declared.outcome.Outcome.{Outcome}
+use Rattle.ci_machine_steps.specs.Prelude.{Job, Need, Attempt, BoardRow, State, AreBoard, IsSound}
+use Rattle.ci_server_lookups.specs.Prelude.{IsOutcome, AreRecords, Act, Outcome}
 use Rattle.ci_server_events.proofs.acts.outcome_among.Goals as goal
 
 -- what becomes of the jobs of any state that has these records

@@ -1,7 +1,5 @@
-use Rattle.std.specs.Prelude.{List}
-use Rattle.std.specs.Option.{option_copied}
-use Rattle.std.proofs.Common.{subst, sym, ap, ◌∙◌}
-use Rattle.ci_machine.specs.declared.change.RowChange.{RowChange}
+use Rattle.std.proofs.Common.{List, option_copied, subst, sym, ap, ◌∙◌}
+use Rattle.ci_machine_steps.specs.Prelude.{RowChange}
 use Rattle.ci_server_events.specs.Planning.{Settles}
 use Rattle.ci_server_lookups.proofs.Loading.{says}
 use Rattle.ci_server_events.proofs.Leaving.{alone_settles}

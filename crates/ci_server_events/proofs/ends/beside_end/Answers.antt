@@ -1,9 +1,7 @@
-use Rattle.std.specs.Prelude.{◌≡◌, ℕ, Some, IfOk}
-use Rattle.std.proofs.Common.{subst, sym, ◌∙◌}
-use Rattle.ci_machine.specs.Kept.{Kept}
-use Rattle.ci_machine_steps.specs.Step.{pipeline_at}
-use Rattle.ci_store.specs.Store.{UnlessBroken}
-use Rattle.ci_server_lookups.specs.Sheets.{IsRight}
+use Rattle.std.proofs.Common.{◌≡◌, ℕ, Some, IfOk, subst, sym, ◌∙◌}
+use Rattle.ci_machine_steps.specs.Prelude.{Kept, pipeline_at}
+use Rattle.ci_store.specs.Prelude.{UnlessBroken}
+use Rattle.ci_server_lookups.specs.Prelude.{IsRight}
 use Rattle.ci_server_lookups.proofs.Loading.{with_both}
 use Rattle.ci_server_events.proofs.Settles.{number_found}
 use Rattle.ci_server_events.proofs.ends.beside_end.Goals as goal

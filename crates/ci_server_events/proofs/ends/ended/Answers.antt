@@ -1,11 +1,6 @@
-use Rattle.std.specs.Prelude.{◌≡◌, ◌==◌, List, [], ◌∷◌, find, Some}
-use Rattle.std.proofs.Common.{refl, sym, ap, subst, ◌∙◌}
-use Rattle.ci_machine.specs.Bodies.{status_of_jobs}
-use Rattle.ci_machine.specs.Statuses.{facts_of, rows_of}
-use Rattle.ci_machine.specs.declared.records.Job.{Job}
-use Rattle.ci_machine_statuses.specs.Boards.{IsGraphOf}
-use Rattle.ci_machine_statuses.specs.HolderChanges.{of_pipeline}
-use Rattle.ci_server_lookups.specs.Records.{AreOf}
+use Rattle.std.proofs.Common.{◌≡◌, ◌==◌, List, [], ◌∷◌, find, Some, refl, sym, ap, subst, ◌∙◌}
+use Rattle.ci_machine_steps.specs.Prelude.{status_of_jobs, facts_of, rows_of, Job}
+use Rattle.ci_server_lookups.specs.Prelude.{IsGraphOf, of_pipeline, AreOf}
 use Rattle.ci_server_lookups.specs.declared.sheet.Sheet.{Sheet}
 use Rattle.ci_server_events.specs.declared.planned.Beside.{Beside}
 use Rattle.ci_server_events.proofs.Found.{at_ok}

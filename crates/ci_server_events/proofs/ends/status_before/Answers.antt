@@ -1,7 +1,5 @@
-use Rattle.std.specs.Prelude.{◌≡◌, length}
-use Rattle.std.proofs.Common.{refl, ap, ◌∙◌}
-use Rattle.ci_machine.specs.Bodies.{status_of_jobs}
-use Rattle.ci_machine.specs.Statuses.{facts_of, rows_of}
+use Rattle.std.proofs.Common.{◌≡◌, length, refl, ap, ◌∙◌}
+use Rattle.ci_machine_steps.specs.Prelude.{status_of_jobs, facts_of, rows_of}
 use Rattle.ci_server_events.proofs.Settles.{of_slices}
 use Rattle.ci_server_events.proofs.Found.{at_ok, passed_on}
 use Rattle.ci_server_events.proofs.ends.status_before.Goals as goal

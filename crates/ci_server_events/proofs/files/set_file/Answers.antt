@@ -1,12 +1,8 @@
-use Rattle.std.specs.Prelude.{◌≡◌, Ok, Option, Result}
+use Rattle.std.proofs.Common.{◌≡◌, Ok, Option, Result, subst, sym, ap, ◌∙◌}
 use Rattle.std.specs.Borrow.{Bor}
 use Rattle.std.specs.Result.{result_map_both}
-use Rattle.std.proofs.Common.{subst, sym, ap, ◌∙◌}
-use Rattle.ci_machine.specs.declared.records.Project.{Project}
-use Rattle.ci_machine.specs.declared.reply.Code.{Code}
+use Rattle.ci_machine_steps.specs.Prelude.{Project, Code, asked_project, project_with}
 use Rattle.ci_machine_steps.specs.Files as machine
-use Rattle.ci_machine_steps.specs.Plans.{asked_project}
-use Rattle.ci_machine_steps.specs.Step.{project_with}
 use Rattle.ci_server_lookups.proofs.Loading.{gives}
 use Rattle.ci_server_events.proofs.Found.{at_ok}
 use Rattle.ci_server_events.proofs.Leaving.{file_leaves}

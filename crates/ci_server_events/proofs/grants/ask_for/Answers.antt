@@ -1,10 +1,7 @@
-use Rattle.std.specs.Prelude.{◌≡◌, Some, None, Option}
-use Rattle.std.proofs.Common.{subst, sym, ap, ◌∙◌}
-use Rattle.ci_machine.specs.declared.records.QueuedJob.{QueuedJob}
-use Rattle.ci_machine_steps.specs.Grants.{ask_job}
-use Rattle.ci_machine_steps.specs.Step.{offer, offered_variables}
+use Rattle.std.proofs.Common.{◌≡◌, Some, None, Option, subst, sym, ap, ◌∙◌}
+use Rattle.ci_machine_steps.specs.Prelude.{QueuedJob, ask_job, offer, offered_variables}
 use Rattle.ci_server_lookups.specs.declared.search.Offer.{Offer}
-use Rattle.ci_server_lookups.specs.Search.{IsOffered}
+use Rattle.ci_server_lookups.specs.Prelude.{IsOffered}
 use Rattle.ci_server_lookups.proofs.Loading.{gives, goes_on}
 use Rattle.ci_server_events.specs.Planning.{PlansFor}
 use Rattle.ci_server_events.proofs.grants.ask_for.Goals as goal

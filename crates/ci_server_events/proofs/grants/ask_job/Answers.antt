@@ -1,8 +1,6 @@
-use Rattle.std.specs.Prelude.{◌≡◌, Some, None, Option}
-use Rattle.std.proofs.Common.{subst, sym, ap, ◌∙◌}
-use Rattle.ci_machine.specs.declared.records.Runner.{Runner}
+use Rattle.std.proofs.Common.{◌≡◌, Some, None, Option, subst, sym, ap, ◌∙◌}
+use Rattle.ci_machine_steps.specs.Prelude.{Runner, offer, offered_variables, runner_with}
 use Rattle.ci_machine_steps.specs.Grants as machine
-use Rattle.ci_machine_steps.specs.Step.{offer, offered_variables, runner_with}
 use Rattle.ci_server_lookups.proofs.Loading.{gives, goes_on}
 use Rattle.ci_server_events.specs.Planning.{PlansFor}
 use Rattle.ci_server_events.proofs.grants.ask_job.Goals as goal

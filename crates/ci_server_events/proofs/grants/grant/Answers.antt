@@ -1,9 +1,6 @@
-use Rattle.std.specs.Prelude.{◌≡◌, ◌↔◌, true, Ok, IfOk, List, []}
-use Rattle.std.proofs.Common.{subst, sym, ap, ◌∙◌}
-use Rattle.ci_machine.specs.declared.records.JobVariable.{JobVariable}
-use Rattle.ci_machine_steps.specs.Plans.{Plan}
+use Rattle.std.proofs.Common.{◌≡◌, ◌↔◌, true, IfOk, List, [], subst, sym, ap, ◌∙◌}
+use Rattle.ci_machine_steps.specs.Prelude.{JobVariable, Plan, variables_of}
 use Rattle.ci_machine_steps.specs.Grants as machine
-use Rattle.ci_machine_steps.specs.Step.{variables_of}
 use Rattle.ci_server_events.specs.Planning.{Settles}
 use Rattle.ci_server_lookups.proofs.Loading.{ends, goes_on}
 use Rattle.ci_server_events.proofs.Found.{at_ok}

@@ -1,10 +1,7 @@
-use Rattle.std.specs.Prelude.{◌≡◌, Option, Result}
+use Rattle.std.proofs.Common.{Option, Result, ap, ◌∙◌}
 use Rattle.std.specs.Result.{result_map_both}
-use Rattle.std.proofs.Common.{ap, ◌∙◌}
-use Rattle.ci_machine.specs.declared.records.Project.{Project}
-use Rattle.ci_machine.specs.declared.reply.Code.{Code}
+use Rattle.ci_machine_steps.specs.Prelude.{Project, Code, asked_project}
 use Rattle.ci_machine_steps.specs.Modes as machine
-use Rattle.ci_machine_steps.specs.Plans.{asked_project}
 use Rattle.ci_server_lookups.proofs.Loading.{gives}
 use Rattle.ci_server_events.proofs.Leaving.{leaves_so, mode_leaves}
 use Rattle.ci_server_events.proofs.modes.set_mode.Goals as goal

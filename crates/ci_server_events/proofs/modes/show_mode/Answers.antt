@@ -1,13 +1,8 @@
-use Rattle.std.specs.Prelude.{◌≡◌, Ok, Option, Result}
+use Rattle.std.proofs.Common.{◌≡◌, Ok, Option, Result, sym, ap, subst, ◌∙◌}
 use Rattle.std.specs.Borrow.{Bor}
 use Rattle.std.specs.Result.{result_map_both}
-use Rattle.std.proofs.Common.{sym, ap, subst, ◌∙◌}
-use Rattle.ci_machine.specs.declared.records.Project.{Project}
-use Rattle.ci_machine.specs.declared.reply.Code.{Code}
-use Rattle.ci_machine.specs.Groups.{order_of}
+use Rattle.ci_machine_steps.specs.Prelude.{Project, Code, order_of, asked_project, project_with}
 use Rattle.ci_machine_steps.specs.Modes as machine
-use Rattle.ci_machine_steps.specs.Plans.{asked_project}
-use Rattle.ci_machine_steps.specs.Step.{project_with}
 use Rattle.ci_server_lookups.proofs.Loading.{goes_on}
 use Rattle.ci_server_events.specs.Planning.{PlansFor}
 use Rattle.ci_server_events.proofs.modes.show_mode.Goals as goal

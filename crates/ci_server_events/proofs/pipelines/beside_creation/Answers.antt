@@ -1,13 +1,7 @@
-use Rattle.std.specs.Prelude.{◌≡◌, List, IfOk, map, length, replicate, option_to_list}
-use Rattle.std.proofs.Common.{subst, sym, ap, ◌∙◌}
+use Rattle.std.proofs.Common.{◌≡◌, List, IfOk, map, length, replicate, option_to_list, subst, sym, ap, ◌∙◌}
 use Rattle.std.proofs.lemmas.List.{length-map}
-use Rattle.ci_board.specs.Rows.{no_facts}
-use Rattle.ci_board.specs.declared.facts.Status.{Status}
-use Rattle.ci_machine.specs.declared.records.BoardRow.{BoardRow}
-use Rattle.ci_machine.specs.declared.records.Job.{Job}
-use Rattle.ci_machine.specs.declared.records.Need.{Need}
-use Rattle.ci_machine.specs.Bodies.{status_of_jobs}
-use Rattle.ci_machine_statuses.specs.HolderChanges.{opened}
+use Rattle.ci_machine_steps.specs.Prelude.{no_facts, Status, BoardRow, Job, Need, status_of_jobs}
+use Rattle.ci_server_lookups.specs.Prelude.{opened}
 use Rattle.ci_server_events.specs.Creating.{RowsMade}
 use Rattle.ci_server_events.proofs.pipelines.beside_creation.Goals as goal
 

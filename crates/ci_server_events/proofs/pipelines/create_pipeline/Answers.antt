@@ -1,11 +1,7 @@
-use Rattle.std.specs.Prelude.{◌≡◌, ℕ, List, Ok, Err, Option, Result}
+use Rattle.std.proofs.Common.{◌≡◌, ℕ, List, Ok, Err, Option, Result, subst, sym, ap, ◌∙◌}
 use Rattle.std.specs.Borrow.{Bor}
 use Rattle.std.specs.Result.{result_map_both}
-use Rattle.std.proofs.Common.{subst, sym, ap, ◌∙◌}
-use Rattle.ci_machine.specs.declared.records.Project.{Project}
-use Rattle.ci_machine_steps.specs.Pipelines.{given_by, may_create, Creates}
-use Rattle.ci_machine_steps.specs.Plans.{Plan, asked_project}
-use Rattle.ci_machine_steps.specs.Step.{project_with, project_variables}
+use Rattle.ci_machine_steps.specs.Prelude.{Project, given_by, may_create, Creates, Plan, asked_project, project_with, project_variables}
 use Rattle.ci_machine_plans.specs.Refusals.{unmade}
 use Rattle.ci_server_events.specs.Planning.{PlansFor}
 use Rattle.ci_server_lookups.proofs.Loading.{goes_on, gives}

@@ -1,13 +1,8 @@
-use Rattle.std.specs.Prelude.{◌≡◌, List, length, map}
-use Rattle.std.proofs.Common.{subst, sym, ap, ◌∙◌}
+use Rattle.std.proofs.Common.{◌≡◌, List, length, map, subst, sym, ap, ◌∙◌}
 use Rattle.std.proofs.lemmas.List.{length-map}
-use Rattle.ci_machine.specs.declared.records.BoardRow.{BoardRow}
-use Rattle.ci_machine.specs.declared.records.Claim.{Claim}
-use Rattle.ci_machine.specs.declared.records.Job.{Job}
-use Rattle.ci_machine.specs.Waiting.{claims_in}
-use Rattle.ci_machine_steps.specs.Pipelines.{pipeline_created}
+use Rattle.ci_machine_steps.specs.Prelude.{BoardRow, Claim, Job, claims_in, pipeline_created}
 use Rattle.ci_machine_pipelines.specs.Creations.{creation_view}
-use Rattle.ci_server_lookups.specs.Held.{FreeAlike}
+use Rattle.ci_server_lookups.specs.Prelude.{FreeAlike}
 use Rattle.ci_server_lookups.proofs.Loading.{ends, says}
 use Rattle.ci_server_events.specs.declared.planned.Beside.{Beside}
 use Rattle.ci_server_events.specs.Creating.{rows_beside, IsMadeBeside}

@@ -1,11 +1,6 @@
-use Rattle.std.specs.Prelude.{◌≡◌, ℕ, true, IfSome, All, Some, map}
-use Rattle.std.proofs.Common.{ap, subst, ◌∙◌}
-use Rattle.ci_machine.specs.declared.records.Job.{Job}
-use Rattle.ci_machine.specs.Ranges.{is_within}
-use Rattle.ci_machine.specs.State.{State}
-use Rattle.ci_machine.specs.Statuses.{jobs_of}
+use Rattle.std.proofs.Common.{◌≡◌, ℕ, true, IfSome, All, Some, map, ap, subst, ◌∙◌}
+use Rattle.ci_machine_steps.specs.Prelude.{Job, is_within, State, jobs_of, IsSound}
 use Rattle.ci_machine_steps.specs.Prunes as machine
-use Rattle.ci_machine_steps.specs.Sound.{IsSound}
 use Rattle.ci_server_lookups.proofs.Loading.{so}
 use Rattle.ci_server_events.proofs.Pruning.{prune_plans}
 use Rattle.ci_server_events.proofs.prunes.prune.Goals as goal

@@ -1,10 +1,7 @@
-use Rattle.std.specs.Prelude.{◌≡◌, Option}
-use Rattle.std.proofs.Common.{sym, subst, ◌∙◌}
-use Rattle.ci_machine.specs.declared.records.Pipeline.{Pipeline}
-use Rattle.ci_machine_steps.specs.Plans.{Plan}
+use Rattle.std.proofs.Common.{◌≡◌, Option, sym, subst, ◌∙◌}
+use Rattle.ci_machine_steps.specs.Prelude.{Pipeline, Plan, jobs_in}
 use Rattle.ci_machine_steps.specs.Prunes as machine
-use Rattle.ci_machine_steps.specs.Step.{jobs_in}
-use Rattle.ci_server_lookups.specs.Keeps.{HoldsKept}
+use Rattle.ci_server_lookups.specs.Prelude.{HoldsKept}
 use Rattle.ci_server_lookups.proofs.Loading.{goes_on, of_kept}
 use Rattle.ci_server_events.specs.Planning.{PlansFor}
 use Rattle.ci_server_events.proofs.Pruning.{found_is}

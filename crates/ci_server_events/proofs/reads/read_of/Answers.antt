@@ -1,5 +1,5 @@
 use Rattle.std.proofs.Common.{ap, ◌∙◌}
-use Rattle.ci_machine_steps.specs.Plans.{Plan}
+use Rattle.ci_machine_steps.specs.Prelude.{Plan}
 use Rattle.ci_server_events.proofs.Leaving.{reads_change_nothing}
 use Rattle.ci_server_events.proofs.reads.read_of.Goals as goal
 

@@ -1,17 +1,7 @@
-use Rattle.std.specs.Prelude.{◌≡◌, ℕ, List, Ok, Option, map, find, option_map}
-use Rattle.std.proofs.Common.{ap, ◌∙◌}
+use Rattle.std.proofs.Common.{◌≡◌, ℕ, List, Ok, Option, map, find, option_map, ap, ◌∙◌}
 use Rattle.serde_json.specs.Data.{Data, array}
 use Rattle.serde_json.specs.View.{items_of}
-use Rattle.ci_machine.specs.declared.records.GroupMode.{GroupMode}
-use Rattle.ci_machine.specs.declared.records.Holder.{Holder}
-use Rattle.ci_machine.specs.declared.reply.Code.{Code}
-use Rattle.ci_machine.specs.Eligible.{holds}
-use Rattle.ci_machine.specs.Groups.{order_of}
-use Rattle.ci_machine.specs.Holders.{holders, holders_in}
-use Rattle.ci_machine.specs.Listings.{group_data}
-use Rattle.ci_machine.specs.State.{State}
-use Rattle.ci_machine.specs.Waiting.{modes_in}
-use Rattle.ci_machine_steps.specs.Reads.{json, with_names, group_names, group_read}
+use Rattle.ci_machine_steps.specs.Prelude.{GroupMode, Holder, Code, holds, order_of, holders, holders_in, group_data, State, modes_in, json, with_names, group_names, group_read}
 use Rattle.ci_machine_plans.specs.Objects.{told_group}
 use Rattle.ci_server_events.specs.Groups.{job_holding, group_by}
 use Rattle.ci_server_lookups.proofs.Loading.{gives, with_both}

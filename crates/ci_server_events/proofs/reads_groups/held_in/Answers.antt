@@ -1,6 +1,5 @@
-use Rattle.std.specs.Prelude.{[], List}
-use Rattle.std.proofs.Common.{ap, ◌∙◌}
-use Rattle.ci_machine.specs.declared.records.Holder.{Holder}
+use Rattle.std.proofs.Common.{[], List, ap, ◌∙◌}
+use Rattle.ci_machine_steps.specs.Prelude.{Holder}
 use Rattle.ci_server_events.specs.Groups.{all_put}
 use Rattle.ci_server_lookups.proofs.Loading.{gives}
 use Rattle.ci_server_events.proofs.GroupLists.{held_same}

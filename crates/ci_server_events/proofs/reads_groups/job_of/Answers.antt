@@ -1,6 +1,5 @@
-use Rattle.std.specs.Prelude.{option_map}
-use Rattle.std.proofs.Common.{sym, ap, ◌∙◌}
-use Rattle.ci_machine.specs.declared.records.Attempt.{Attempt}
+use Rattle.std.proofs.Common.{option_map, sym, ap, ◌∙◌}
+use Rattle.ci_machine_steps.specs.Prelude.{Attempt}
 use Rattle.ci_server_events.specs.Groups.{job_holding}
 use Rattle.ci_server_lookups.proofs.Loading.{gives}
 use Rattle.ci_server_events.proofs.reads_groups.job_of.Goals as goal

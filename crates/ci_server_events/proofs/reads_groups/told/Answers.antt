@@ -1,5 +1,4 @@
-use Rattle.std.specs.Prelude.{Ok, map}
-use Rattle.std.proofs.Common.{refl, ap, arith, ◌∙◌}
+use Rattle.std.proofs.Common.{Ok, map, refl, ap, arith, ◌∙◌}
 use Rattle.std.proofs.lemmas.List.{take_all}
 use Rattle.ci_server_lookups.proofs.Loading.{so, gives}
 use Rattle.ci_server_events.specs.Groups.{group_by}

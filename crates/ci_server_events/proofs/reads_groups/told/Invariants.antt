@@ -1,7 +1,6 @@
-use Rattle.std.specs.Prelude.{Ok, map}
-use Rattle.std.proofs.Common.{◌≡◌, take}
+use Rattle.std.proofs.Common.{Ok, map, ◌≡◌, take}
 use Rattle.ci_machine_plans.specs.Objects.{told_group}
-use Rattle.ci_store.specs.Store.{LoadsBy}
+use Rattle.ci_store.specs.Prelude.{LoadsBy}
 use Rattle.ci_server_events.specs.Groups.{group_by}
 use Rattle.ci_server_events.proofs.reads_groups.told.Given as goal
 

@@ -1,5 +1,5 @@
 use Rattle.std.proofs.Common.{ap, ◌∙◌}
-use Rattle.ci_machine.specs.Listings.{group_data}
+use Rattle.ci_machine_steps.specs.Prelude.{group_data}
 use Rattle.ci_server_events.specs.Groups.{job_holding}
 use Rattle.ci_server_lookups.proofs.Loading.{gives}
 use Rattle.ci_server_events.proofs.reads_groups.told_one.Goals as goal

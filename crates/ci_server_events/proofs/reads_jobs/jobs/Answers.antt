@@ -1,12 +1,7 @@
-use Rattle.std.specs.Prelude.{◌≡◌, Ok, Option}
+use Rattle.std.proofs.Common.{◌≡◌, Ok, Option, sym, ap, ◌∙◌}
 use Rattle.std.specs.Borrow.{Bor}
 use Rattle.std.specs.Result.{result_map_both}
-use Rattle.std.proofs.Common.{sym, ap, ◌∙◌}
-use Rattle.ci_machine.specs.declared.records.Pipeline.{Pipeline}
-use Rattle.ci_machine.specs.declared.reply.Code.{Code}
-use Rattle.ci_machine.specs.Lookups.{pipeline_at}
-use Rattle.ci_machine_steps.specs.Reads.{jobs_read}
-use Rattle.ci_machine_steps.specs.Shows.{pipeline_within}
+use Rattle.ci_machine_steps.specs.Prelude.{Pipeline, Code, pipeline_at, jobs_read, pipeline_within}
 use Rattle.ci_server_lookups.proofs.Loading.{so}
 use Rattle.ci_server_events.proofs.Telling.{ok_alike}
 use Rattle.ci_server_events.proofs.reads_jobs.jobs.Goals as goal

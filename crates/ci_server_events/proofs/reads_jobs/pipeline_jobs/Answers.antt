@@ -1,15 +1,8 @@
-use Rattle.std.specs.Prelude.{◌≡◌, List, All, true}
-use Rattle.std.proofs.Common.{subst, sym, ap, ◌∙◌}
+use Rattle.std.proofs.Common.{◌≡◌, List, All, true, subst, sym, ap, ◌∙◌}
 use Rattle.serde_json.specs.Data.{Data, array}
 use Rattle.serde_json.specs.View.{items_of}
-use Rattle.ci_machine.specs.declared.records.Job.{Job}
-use Rattle.ci_machine.specs.Listings.{told_jobs}
-use Rattle.ci_machine.specs.Ranges.{is_within}
-use Rattle.ci_machine.specs.Statuses.{jobs_of, facts_of, rows_of}
-use Rattle.ci_machine.specs.Waiting.{claims_in}
-use Rattle.ci_machine_steps.specs.Reads.{json}
-use Rattle.ci_machine_statuses.specs.Lookups.{AreRecords}
-use Rattle.ci_server_lookups.specs.Held.{FreeAlike}
+use Rattle.ci_machine_steps.specs.Prelude.{Job, told_jobs, is_within, jobs_of, facts_of, rows_of, claims_in, json}
+use Rattle.ci_server_lookups.specs.Prelude.{AreRecords, FreeAlike}
 use Rattle.ci_server_lookups.proofs.Loading.{ends, goes_on, with_both}
 use Rattle.ci_server_events.proofs.Found.{at_ok}
 use Rattle.ci_server_events.proofs.Telling.{at_some, told_alike}

@@ -1,10 +1,7 @@
-use Rattle.std.specs.Prelude.{◌≡◌, List, length}
-use Rattle.std.proofs.Common.{ap, ◌∙◌}
+use Rattle.std.proofs.Common.{◌≡◌, List, length, ap, ◌∙◌}
 use Rattle.serde_json.specs.Data.{array}
 use Rattle.serde_json.specs.View.{items_of}
-use Rattle.ci_machine.specs.Listings.{told_jobs}
-use Rattle.ci_machine.specs.Statuses.{facts_of, rows_of}
-use Rattle.ci_machine_steps.specs.Reads.{json}
+use Rattle.ci_machine_steps.specs.Prelude.{told_jobs, facts_of, rows_of, json}
 use Rattle.ci_server_events.proofs.Found.{at_ok, passed_on}
 use Rattle.ci_server_events.proofs.reads_jobs.told.Goals as goal
 

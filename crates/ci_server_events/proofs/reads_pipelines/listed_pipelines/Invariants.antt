@@ -1,9 +1,7 @@
-use Rattle.std.proofs.Common.{◌≡◌, ◌++◌, drop, map}
-use Rattle.std.specs.Prelude.{Ok}
-use Rattle.ci_machine.specs.Indexes.{with_status}
-use Rattle.ci_machine_steps.specs.Reads.{listed_pipelines}
-use Rattle.ci_store.specs.Store.{LoadsBy}
-use Rattle.ci_server_lookups.specs.Keeps.{IsKept}
+use Rattle.std.proofs.Common.{◌≡◌, ◌++◌, drop, map, Ok}
+use Rattle.ci_machine_steps.specs.Prelude.{with_status, listed_pipelines}
+use Rattle.ci_store.specs.Prelude.{LoadsBy}
+use Rattle.ci_server_lookups.specs.Prelude.{IsKept}
 use Rattle.ci_server_events.proofs.reads_pipelines.listed_pipelines.Given as goal
 
 -- the pipelines that are told, with those that are left, are all that are listed

@@ -1,7 +1,5 @@
-use Rattle.std.specs.Prelude.{◌≡◌, length}
-use Rattle.std.proofs.Common.{ap, ◌∙◌}
-use Rattle.ci_machine.specs.Bodies.{status_of_jobs}
-use Rattle.ci_machine.specs.Statuses.{facts_of, rows_of}
+use Rattle.std.proofs.Common.{◌≡◌, length, ap, ◌∙◌}
+use Rattle.ci_machine_steps.specs.Prelude.{status_of_jobs, facts_of, rows_of}
 use Rattle.ci_server_events.proofs.Found.{passed_on}
 use Rattle.ci_server_events.proofs.reads_pipelines.status_by.Goals as goal
 

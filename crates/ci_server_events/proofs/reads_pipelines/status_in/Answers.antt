@@ -1,15 +1,6 @@
-use Rattle.std.specs.Prelude.{◌≡◌, IfOk, IfSome, List, All, true, ℕ}
-use Rattle.std.proofs.Common.{refl, subst, sym, ap, ◌∙◌}
-use Rattle.ci_machine.specs.declared.records.Job.{Job}
-use Rattle.ci_machine.specs.declared.records.Need.{Need}
-use Rattle.ci_machine.specs.Bodies.{status_of_jobs}
-use Rattle.ci_machine.specs.Kept.{Kept}
-use Rattle.ci_machine.specs.Ranges.{is_within, needs_within}
-use Rattle.ci_machine.specs.State.{State}
-use Rattle.ci_machine.specs.Statuses.{jobs_of, facts_of, rows_of}
-use Rattle.ci_machine_steps.specs.Sound.{IsSound}
-use Rattle.ci_machine_statuses.specs.Lookups.{AreRecords}
-use Rattle.ci_server_lookups.specs.Keeps.{IsKept}
+use Rattle.std.proofs.Common.{◌≡◌, IfOk, IfSome, List, All, true, ℕ, refl, subst, sym, ap, ◌∙◌}
+use Rattle.ci_machine_steps.specs.Prelude.{Job, Need, status_of_jobs, Kept, is_within, needs_within, State, jobs_of, facts_of, rows_of, IsSound}
+use Rattle.ci_server_lookups.specs.Prelude.{AreRecords, IsKept}
 use Rattle.ci_server_lookups.proofs.Loading.{ends, goes_on}
 use Rattle.ci_server_events.proofs.reads_pipelines.status_in.Goals as goal
 

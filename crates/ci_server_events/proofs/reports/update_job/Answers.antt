@@ -1,9 +1,6 @@
-use Rattle.std.specs.Prelude.{◌≡◌, Some, None, IfOk, Option, option_map}
-use Rattle.std.proofs.Common.{subst, sym, ap, ◌∙◌}
-use Rattle.ci_machine.specs.declared.lease.Lease.{Lease}
-use Rattle.ci_machine_steps.specs.Plans.{Plan}
+use Rattle.std.proofs.Common.{◌≡◌, Some, None, IfOk, Option, option_map, subst, sym, ap, ◌∙◌}
+use Rattle.ci_machine_steps.specs.Prelude.{Lease, Plan, lease_at}
 use Rattle.ci_machine_steps.specs.Reports as machine
-use Rattle.ci_machine_steps.specs.Step.{lease_at}
 use Rattle.ci_server_events.specs.Planning.{MovesOne}
 use Rattle.ci_server_lookups.proofs.Loading.{gives, goes_on, carries, third}
 use Rattle.ci_server_events.proofs.Found.{at_ok, leased}

@@ -1,14 +1,7 @@
-use Rattle.std.specs.Prelude.{◌≡◌, ℕ, List, length, IfOk}
-use Rattle.std.proofs.Common.{subst, ap, ◌∙◌}
-use Rattle.ci_board.specs.declared.facts.Facts.{Facts}
-use Rattle.ci_board.specs.declared.facts.Row.{Row}
-use Rattle.ci_machine.specs.declared.records.BoardRow.{BoardRow}
-use Rattle.ci_machine.specs.declared.records.Need.{Need}
+use Rattle.std.proofs.Common.{◌≡◌, ℕ, List, length, IfOk, subst, ap, ◌∙◌}
+use Rattle.ci_machine_steps.specs.Prelude.{Facts, Row, BoardRow, Need, IsSound, State, facts_of, rows_of, AreBoard}
 use Rattle.ci_machine_steps.specs.Shows as machine
-use Rattle.ci_machine_steps.specs.Sound.{IsSound}
-use Rattle.ci_machine.specs.State.{State}
-use Rattle.ci_machine.specs.Statuses.{facts_of, rows_of, AreBoard}
-use Rattle.ci_machine_statuses.specs.Lookups.{AreRecords}
+use Rattle.ci_server_lookups.specs.Prelude.{AreRecords}
 use Rattle.ci_server_events.proofs.Found.{passed_on}
 use Rattle.ci_server_events.proofs.shows.jobs_shown.Goals as goal
 

@@ -1,6 +1,6 @@
 use Rattle.std.proofs.Common.{ap}
 use Rattle.std.proofs.lemmas.Result.{IfErr-weaker}
-use Rattle.ci_server_lookups.specs.Faults.{as_store_fault}
+use Rattle.ci_server_lookups.specs.Prelude.{as_store_fault}
 use Rattle.ci_server_lookups.proofs.Loading.{carried, handed_on}
 use Rattle.ci_server_events.proofs.shows.loaded.Goals as goal
 

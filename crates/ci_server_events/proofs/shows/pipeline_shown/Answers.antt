@@ -1,18 +1,7 @@
-use Rattle.std.specs.Prelude.{◌≡◌, IfOk, IfSome, List, All, true, ℕ}
-use Rattle.std.proofs.Common.{refl, subst, sym, ap, ◌∙◌}
-use Rattle.ci_machine.specs.declared.records.Claim.{Claim}
-use Rattle.ci_machine.specs.declared.records.Job.{Job}
-use Rattle.ci_machine.specs.declared.records.Need.{Need}
-use Rattle.ci_machine.specs.Kept.{Kept}
-use Rattle.ci_machine.specs.Ranges.{is_within, needs_within}
+use Rattle.std.proofs.Common.{◌≡◌, IfSome, List, All, true, ℕ, refl, subst, sym, ap, ◌∙◌}
+use Rattle.ci_machine_steps.specs.Prelude.{Claim, Job, is_within, needs_within, IsSound, State, jobs_of, facts_of, rows_of, claims_in}
 use Rattle.ci_machine_steps.specs.Shows as machine
-use Rattle.ci_machine_steps.specs.Sound.{IsSound}
-use Rattle.ci_machine.specs.State.{State}
-use Rattle.ci_machine.specs.Statuses.{jobs_of, facts_of, rows_of}
-use Rattle.ci_machine.specs.Waiting.{claims_in}
-use Rattle.ci_machine_statuses.specs.Lookups.{AreRecords}
-use Rattle.ci_server_lookups.specs.Held.{FreeAlike}
-use Rattle.ci_server_lookups.specs.Keeps.{IsKept}
+use Rattle.ci_server_lookups.specs.Prelude.{FreeAlike}
 use Rattle.ci_server_lookups.proofs.Loading.{ends, goes_on}
 use Rattle.ci_server_events.proofs.Found.{at_ok}
 use Rattle.ci_server_events.proofs.Showing.{pipeline_alike}

@@ -1,20 +1,11 @@
-use Rattle.std.specs.Prelude.{◌≡◌, ℕ, List, [], ◌∷◌, Ok, Option, Result}
+use Rattle.std.proofs.Common.{◌≡◌, ℕ, List, [], ◌∷◌, Ok, Option, Result, subst, sym, ap, ◌∙◌}
 use Rattle.std.specs.Borrow.{Bor}
 use Rattle.std.specs.Result.{result_map_both}
-use Rattle.std.proofs.Common.{subst, sym, ap, ◌∙◌}
-use Rattle.ci_board.specs.declared.facts.Status.{Status}
-use Rattle.ci_machine.specs.declared.records.BoardRow.{BoardRow}
-use Rattle.ci_machine.specs.declared.records.Claim.{Claim}
-use Rattle.ci_machine.specs.declared.records.Job.{Job}
-use Rattle.ci_machine.specs.declared.reply.Code.{Code}
-use Rattle.ci_machine.specs.Ranges.{row_at}
-use Rattle.ci_machine_steps.specs.Shows.{asked_job, job_shown, shown}
-use Rattle.ci_machine.specs.Statuses.{row_or_none, status_for}
-use Rattle.ci_machine.specs.Waiting.{claims_in}
-use Rattle.ci_machine_steps.specs.Step.{job_at, pipeline_or_none, found_job}
-use Rattle.ci_server_lookups.specs.Held.{FreeAlike}
+use Rattle.ci_machine_steps.specs.Prelude.{Status, BoardRow, Claim, Job, Code, asked_job, job_shown, shown, row_or_none, status_for, claims_in, job_at, pipeline_or_none, found_job}
+use Rattle.ci_machine_steps.specs.Prelude.{Reply}
+use Rattle.ci_store.specs.Prelude.{row_at}
+use Rattle.ci_server_lookups.specs.Prelude.{FreeAlike}
 use Rattle.ci_server_lookups.proofs.Loading.{ends, goes_on}
-use Rattle.ci_machine.specs.declared.reply.Reply.{Reply}
 use Rattle.ci_server_events.specs.declared.planned.Planned.{Planned}
 use Rattle.ci_server_events.specs.declared.shows.Named.{Named}
 use Rattle.ci_server_events.specs.Planning.{PlansFor}

@@ -1,15 +1,8 @@
-use Rattle.std.specs.Prelude.{◌≡◌, Ok, Option, Result}
+use Rattle.std.proofs.Common.{◌≡◌, Ok, Option, Result, sym, ap, subst, ◌∙◌}
 use Rattle.std.specs.Borrow.{Bor}
 use Rattle.std.specs.Result.{result_map_both}
-use Rattle.std.proofs.Common.{sym, ap, subst, ◌∙◌}
-use Rattle.ci_machine.specs.declared.records.Pipeline.{Pipeline}
-use Rattle.ci_machine.specs.declared.records.Project.{Project}
-use Rattle.ci_machine.specs.declared.reply.Code.{Code}
-use Rattle.ci_machine.specs.Waiting.{claims_in}
-use Rattle.ci_machine_steps.specs.Plans.{asked_project}
+use Rattle.ci_machine_steps.specs.Prelude.{Pipeline, Project, Code, claims_in, asked_project, jobs_of, facts_of, rows_of, project_with, pipeline_at}
 use Rattle.ci_machine_steps.specs.Shows as machine
-use Rattle.ci_machine.specs.Statuses.{jobs_of, facts_of, rows_of}
-use Rattle.ci_machine_steps.specs.Step.{project_with, pipeline_at}
 use Rattle.ci_server_lookups.proofs.Loading.{goes_on}
 use Rattle.ci_server_events.specs.Planning.{PlansFor}
 use Rattle.ci_server_events.proofs.shows.show_pipeline.Goals as goal

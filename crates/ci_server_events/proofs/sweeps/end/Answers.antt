@@ -1,8 +1,5 @@
-use Rattle.std.specs.Prelude.{◌≡◌, List}
-use Rattle.std.proofs.Common.{subst, sym}
-use Rattle.ci_machine.specs.declared.change.RowChange.{RowChange}
-use Rattle.ci_machine.specs.declared.reply.Swept.{Swept}
-use Rattle.ci_machine_steps.specs.Sweeps.{ends}
+use Rattle.std.proofs.Common.{◌≡◌, List, subst, sym}
+use Rattle.ci_machine_steps.specs.Prelude.{RowChange, Swept, ends}
 use Rattle.ci_server_events.specs.Planning.{MovesOne}
 use Rattle.ci_server_lookups.proofs.Loading.{goes_on, carries, third}
 use Rattle.ci_server_events.proofs.Found.{at_ok}

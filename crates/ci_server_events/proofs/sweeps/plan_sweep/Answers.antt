@@ -1,10 +1,6 @@
-use Rattle.std.specs.Prelude.{◌≡◌, Option, Some, None}
-use Rattle.std.proofs.Common.{sym, ap, ◌∙◌}
-use Rattle.ci_machine.specs.declared.lease.Lease.{Lease}
-use Rattle.ci_machine.specs.Leases.{first_due}
-use Rattle.ci_machine_steps.specs.Step.{leases, redundant_in, cancellable_in}
-use Rattle.ci_machine_steps.specs.Sweeps.{sweep}
-use Rattle.ci_server_lookups.specs.Keeps.{HoldsKept}
+use Rattle.std.proofs.Common.{◌≡◌, Option, Some, None, sym, ap, ◌∙◌}
+use Rattle.ci_machine_steps.specs.Prelude.{Lease, first_due, leases, redundant_in, cancellable_in, sweep}
+use Rattle.ci_server_lookups.specs.Prelude.{HoldsKept}
 use Rattle.ci_server_lookups.proofs.Loading.{goes_on, of_kept}
 use Rattle.ci_server_events.proofs.Settles.{due_is_live}
 use Rattle.ci_server_events.proofs.sweeps.plan_sweep.Goals as goal

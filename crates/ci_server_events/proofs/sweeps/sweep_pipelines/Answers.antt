@@ -1,9 +1,6 @@
-use Rattle.std.specs.Prelude.{◌≡◌, Option, Some, None}
-use Rattle.std.proofs.Common.{sym, ap, ◌∙◌}
-use Rattle.ci_machine.specs.declared.records.Pipeline.{Pipeline}
-use Rattle.ci_machine_steps.specs.Step.{redundant_in, cancellable_in}
-use Rattle.ci_machine_steps.specs.Sweeps.{sweep}
-use Rattle.ci_server_lookups.specs.Keeps.{HoldsKept}
+use Rattle.std.proofs.Common.{◌≡◌, Option, Some, None, sym, ap, ◌∙◌}
+use Rattle.ci_machine_steps.specs.Prelude.{Pipeline, redundant_in, cancellable_in, sweep}
+use Rattle.ci_server_lookups.specs.Prelude.{HoldsKept}
 use Rattle.ci_server_lookups.proofs.Loading.{goes_on, gives, of_kept}
 use Rattle.ci_server_events.proofs.sweeps.sweep_pipelines.Goals as goal
 

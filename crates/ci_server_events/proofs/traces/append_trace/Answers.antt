@@ -1,7 +1,5 @@
-use Rattle.std.specs.Prelude.{◌≡◌, length, Some}
-use Rattle.std.proofs.Common.{subst, sym, ◌∙◌}
-use Rattle.ci_machine_steps.specs.Plans.{Plan}
-use Rattle.ci_machine_steps.specs.Step.{lease_at, trace_of}
+use Rattle.std.proofs.Common.{◌≡◌, length, Some, subst, sym, ◌∙◌}
+use Rattle.ci_machine_steps.specs.Prelude.{Plan, lease_at, trace_of}
 use Rattle.ci_machine_steps.specs.Traces as machine
 use Rattle.ci_server_lookups.proofs.Loading.{ends, goes_on}
 use Rattle.ci_server_events.specs.Planning.{Settles}

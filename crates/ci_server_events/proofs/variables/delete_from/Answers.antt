@@ -1,5 +1,4 @@
-use Rattle.std.specs.Option.{option_copied}
-use Rattle.std.specs.Prelude.{Ok}
+use Rattle.std.specs.Prelude.{option_copied, Ok}
 use Rattle.ci_server_events.proofs.Leaving.{leaves_so, deletion_leaves}
 use Rattle.ci_server_events.proofs.variables.delete_from.Goals as goal
 

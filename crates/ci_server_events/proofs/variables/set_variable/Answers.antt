@@ -1,11 +1,7 @@
-use Rattle.std.specs.Prelude.{◌≡◌, Ok, Option, Result}
+use Rattle.std.proofs.Common.{◌≡◌, Ok, Option, Result, sym, ap, subst, ◌∙◌}
 use Rattle.std.specs.Borrow.{Bor}
 use Rattle.std.specs.Result.{result_map_both}
-use Rattle.std.proofs.Common.{sym, ap, subst, ◌∙◌}
-use Rattle.ci_machine.specs.declared.records.Project.{Project}
-use Rattle.ci_machine.specs.declared.reply.Code.{Code}
-use Rattle.ci_machine_steps.specs.Plans.{asked_project}
-use Rattle.ci_machine_steps.specs.Step.{project_with, project_variables}
+use Rattle.ci_machine_steps.specs.Prelude.{Project, Code, asked_project, project_with, project_variables}
 use Rattle.ci_machine_steps.specs.Variables as machine
 use Rattle.ci_server_lookups.proofs.Loading.{goes_on}
 use Rattle.ci_server_events.specs.Planning.{PlansFor}

@@ -1,7 +1,6 @@
-use Rattle.std.specs.Prelude.{Ok}
-use Rattle.std.proofs.Common.{refl, ap, ◌∙◌}
+use Rattle.std.proofs.Common.{Ok, refl, ap, ◌∙◌}
 use Rattle.std.proofs.lemmas.List.{take_all}
-use Rattle.ci_machine.specs.Waiting.{groups_in}
+use Rattle.ci_machine_steps.specs.Prelude.{groups_in}
 use Rattle.ci_server_lookups.proofs.Loading.{gives, so}
 use Rattle.ci_server_lookups.proofs.Claiming.{ahead_in, ahead_more, ahead_alike}
 use Rattle.ci_server_lookups.proofs.claims.ahead_of.Goals as goal

@@ -1,7 +1,7 @@
 use Rattle.std.specs.Prelude.{◌≡◌, take, Ok}
-use Rattle.ci_machine.specs.Waiting.{groups_in}
-use Rattle.ci_store.specs.Store.{LoadsBy}
-use Rattle.ci_server_lookups.specs.Keeps.{IsKept}
+use Rattle.ci_machine_steps.specs.Prelude.{groups_in}
+use Rattle.ci_store.specs.Prelude.{LoadsBy}
+use Rattle.ci_server_lookups.specs.Prelude.{IsKept}
 use Rattle.ci_server_lookups.proofs.Claiming.{ahead_in}
 use Rattle.ci_server_lookups.proofs.claims.ahead_of.Given as goal
 

@@ -1,8 +1,6 @@
-use Rattle.std.specs.Prelude.{◌++◌, map}
-use Rattle.std.proofs.Common.{sym, subst, ◌∙◌}
-use Rattle.ci_machine.specs.Groups.{held_claim}
-use Rattle.ci_machine.specs.Waiting.{groups_in, claims_in}
-use Rattle.ci_server_lookups.specs.Held.{FreeAlike}
+use Rattle.std.proofs.Common.{◌++◌, map, sym, subst, ◌∙◌}
+use Rattle.ci_machine_steps.specs.Prelude.{held_claim, groups_in, claims_in}
+use Rattle.ci_server_lookups.specs.Prelude.{FreeAlike}
 use Rattle.ci_server_lookups.proofs.Loading.{so}
 use Rattle.ci_server_lookups.proofs.Claiming.{with_alike}
 use Rattle.ci_server_lookups.proofs.claims.claims_on.Goals as goal

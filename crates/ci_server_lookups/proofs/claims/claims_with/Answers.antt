@@ -1,5 +1,5 @@
 use Rattle.std.specs.Prelude.{map}
-use Rattle.ci_machine.specs.Groups.{held_claim}
+use Rattle.ci_machine_steps.specs.Prelude.{held_claim}
 use Rattle.ci_server_lookups.proofs.Claiming.{copied_more}
 use Rattle.ci_server_lookups.proofs.claims.claims_with.Goals as goal
 

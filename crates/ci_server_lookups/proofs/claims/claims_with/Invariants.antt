@@ -1,5 +1,5 @@
 use Rattle.std.specs.Prelude.{◌≡◌, ◌++◌, map, take}
-use Rattle.ci_machine.specs.Groups.{held_claim}
+use Rattle.ci_machine_steps.specs.Prelude.{held_claim}
 use Rattle.ci_server_lookups.proofs.claims.claims_with.Given as goal
 
 -- those so far stand behind the claims of those who hold

@@ -1,8 +1,5 @@
-use Rattle.std.specs.Prelude.{Option, option_map}
-use Rattle.std.proofs.Common.{sym, ap, ◌∙◌}
-use Rattle.ci_machine.specs.declared.records.GroupMode.{GroupMode}
-use Rattle.ci_machine.specs.Groups.{is_behind}
-use Rattle.ci_machine.specs.Waiting.{waiting}
+use Rattle.std.proofs.Common.{Option, option_map, sym, ap, ◌∙◌}
+use Rattle.ci_machine_steps.specs.Prelude.{GroupMode, is_behind, waiting}
 use Rattle.ci_machine.proofs.Claims.{none_ahead}
 use Rattle.ci_server_lookups.proofs.Loading.{gives, goes_on}
 use Rattle.ci_server_lookups.proofs.claims.is_behind.Goals as goal

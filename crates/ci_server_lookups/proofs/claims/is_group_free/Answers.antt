@@ -1,6 +1,5 @@
 use Rattle.std.proofs.Common.{sym, ap, ◌∙◌}
-use Rattle.ci_machine.specs.Eligible.{is_free}
-use Rattle.ci_machine.specs.Waiting.{claims_in}
+use Rattle.ci_machine_steps.specs.Prelude.{is_free, claims_in}
 use Rattle.ci_server_lookups.proofs.Loading.{stays, says}
 use Rattle.ci_server_lookups.proofs.claims.is_group_free.Goals as goal
 

@@ -1,5 +1,5 @@
 use Rattle.std.proofs.Common.{sym, ◌∙◌}
-use Rattle.ci_machine.specs.Waiting.{groups_in}
+use Rattle.ci_machine_steps.specs.Prelude.{groups_in}
 use Rattle.ci_server_lookups.proofs.Loading.{gives, so}
 use Rattle.ci_server_lookups.proofs.Holds.{held_by_row}
 use Rattle.ci_server_lookups.proofs.Claiming.{not_free, free_unless}

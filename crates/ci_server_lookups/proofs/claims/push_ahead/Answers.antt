@@ -1,8 +1,7 @@
-use Rattle.std.specs.Prelude.{◌++◌}
-use Rattle.std.proofs.Common.{sym, ap, ◌∙◌}
+use Rattle.std.proofs.Common.{◌++◌, sym, ap, ◌∙◌}
 use Rattle.std.proofs.lemmas.List.{append-nil}
-use Rattle.ci_machine.specs.Waiting.{groups_in}
-use Rattle.ci_server_lookups.specs.Held.{ahead_for}
+use Rattle.ci_machine_steps.specs.Prelude.{groups_in}
+use Rattle.ci_server_lookups.specs.Prelude.{ahead_for}
 use Rattle.ci_server_lookups.proofs.Loading.{stays, says}
 use Rattle.ci_server_lookups.proofs.claims.push_ahead.Goals as goal
 

@@ -1,6 +1,5 @@
-use Rattle.std.specs.Prelude.{◌++◌}
-use Rattle.std.proofs.Common.{ap, ◌∙◌}
-use Rattle.ci_server_lookups.specs.Held.{claim_if}
+use Rattle.std.proofs.Common.{◌++◌, ap, ◌∙◌}
+use Rattle.ci_server_lookups.specs.Prelude.{claim_if}
 use Rattle.ci_server_lookups.proofs.Loading.{gives}
 use Rattle.ci_server_lookups.proofs.claims.push_if_behind.Goals as goal
 

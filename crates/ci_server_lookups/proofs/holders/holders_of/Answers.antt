@@ -1,5 +1,4 @@
-use Rattle.std.specs.Prelude.{Ok}
-use Rattle.std.proofs.Common.{refl, ap, ◌∙◌}
+use Rattle.std.proofs.Common.{Ok, refl, ap, ◌∙◌}
 use Rattle.std.proofs.lemmas.List.{take_all}
 use Rattle.ci_server_lookups.proofs.Loading.{gives}
 use Rattle.ci_server_lookups.proofs.Holds.{gathered_in, found_alike}

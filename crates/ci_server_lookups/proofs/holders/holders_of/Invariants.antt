@@ -1,6 +1,5 @@
-use Rattle.std.proofs.Common.{◌≡◌, take}
-use Rattle.std.specs.Prelude.{Ok}
-use Rattle.ci_store.specs.Store.{LoadsBy}
+use Rattle.std.proofs.Common.{◌≡◌, take, Ok}
+use Rattle.ci_store.specs.Prelude.{LoadsBy}
 use Rattle.ci_server_lookups.proofs.Holds.{gathered_in}
 use Rattle.ci_server_lookups.proofs.holders.holders_of.Given as goal
 

@@ -1,5 +1,5 @@
 use Rattle.std.proofs.Common.{◌≡◌, take}
-use Rattle.ci_server_lookups.specs.Held.{still_held}
+use Rattle.ci_server_lookups.specs.Prelude.{still_held}
 use Rattle.ci_server_lookups.proofs.holders.still_held.Given as goal
 
 -- those so far that still hold what they held

@@ -1,5 +1,4 @@
-use Rattle.std.specs.Prelude.{option_map}
-use Rattle.std.proofs.Common.{sym, ap, ◌∙◌}
+use Rattle.std.proofs.Common.{option_map, sym, ap, ◌∙◌}
 use Rattle.ci_server_lookups.proofs.Loading.{gives}
 use Rattle.ci_server_lookups.proofs.leases.lease_at.Goals as goal
 

@@ -1,11 +1,9 @@
-use Rattle.std.specs.Prelude.{ℕ, ◌==◌, not, Bool, List, length, find, nat_lt, Ok}
+use Rattle.std.proofs.Common.{ℕ, ◌==◌, not, Bool, List, length, find, nat_lt, Ok, refl, sym, ap, ◌∙◌, ltb-true}
 use Rattle.std.specs.List.{list_any}
-use Rattle.std.proofs.Common.{refl, sym, ap, ◌∙◌, ltb-true}
 use Rattle.std.proofs.lemmas.Bool.{and_parts}
-use Rattle.ci_machine.specs.declared.records.Pipeline.{Pipeline}
+use Rattle.ci_machine_steps.specs.Prelude.{Pipeline}
 use Rattle.ci_machine_steps.proofs.Sound.{sound}
-use Rattle.ci_server_lookups.specs.Keeps.{HoldsKept}
-use Rattle.ci_server_lookups.specs.Unfinished.{AreOpen}
+use Rattle.ci_server_lookups.specs.Prelude.{HoldsKept, AreOpen}
 use Rattle.ci_server_lookups.proofs.Loading.{so, of_kept}
 use Rattle.ci_server_lookups.proofs.Prunables.{not_some, one_is_prunable, none_is_prunable}
 use Rattle.ci_server_lookups.proofs.prunable.first_prunable.Goals as goal

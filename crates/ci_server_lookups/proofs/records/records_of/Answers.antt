@@ -1,12 +1,6 @@
-use Rattle.std.specs.Prelude.{◌≡◌, Ok, IfSome, All, true, ℕ}
-use Rattle.std.proofs.Common.{subst, ◌∙◌}
-use Rattle.ci_machine.specs.declared.records.Job.{Job}
-use Rattle.ci_machine.specs.Ranges.{is_within}
-use Rattle.ci_machine_steps.specs.Sound.{IsSound}
-use Rattle.ci_machine.specs.State.{State}
-use Rattle.ci_machine.specs.Statuses.{jobs_of}
-use Rattle.ci_server_lookups.specs.declared.records.Records.{Records}
-use Rattle.ci_server_lookups.specs.Records.{AreOf}
+use Rattle.std.proofs.Common.{◌≡◌, Ok, IfSome, All, true, ℕ, subst, ◌∙◌}
+use Rattle.ci_machine_steps.specs.Prelude.{Job, is_within, IsSound, State, jobs_of}
+use Rattle.ci_server_lookups.specs.Prelude.{Records, AreOf}
 use Rattle.ci_server_lookups.proofs.Loading.{ends, goes_on}
 use Rattle.ci_server_lookups.proofs.records.records_of.Goals as goal
 

@@ -1,12 +1,6 @@
-use Rattle.std.specs.Prelude.{◌≡◌, Ok, Some}
-use Rattle.std.proofs.Common.{refl, sym, subst, ◌∙◌}
-use Rattle.ci_machine.specs.Groups.{claims_ahead}
-use Rattle.ci_machine.specs.Holders.{holders}
-use Rattle.ci_machine.specs.Waiting.{groups_in}
-use Rattle.ci_machine_steps.specs.Step.{pipeline_at}
-use Rattle.ci_server_lookups.specs.Keeps.{IsKept}
-use Rattle.ci_server_lookups.specs.Held.{HoldAlike, FreeAlike}
-use Rattle.ci_server_lookups.specs.Records.{AreOf}
+use Rattle.std.proofs.Common.{◌≡◌, Ok, Some, refl, sym, subst, ◌∙◌}
+use Rattle.ci_machine_steps.specs.Prelude.{claims_ahead, holders, groups_in, pipeline_at}
+use Rattle.ci_server_lookups.specs.Prelude.{IsKept, HoldAlike, FreeAlike, AreOf}
 use Rattle.ci_server_lookups.proofs.Loading.{so}
 use Rattle.ci_server_lookups.proofs.records.whole_of.Goals as goal
 

@@ -1,8 +1,7 @@
-use Rattle.std.specs.Prelude.{◌==◌}
-use Rattle.std.proofs.Common.{sym, ap, ◌∙◌}
+use Rattle.std.proofs.Common.{◌==◌, sym, ap, ◌∙◌}
 use Rattle.std.proofs.lemmas.List.Filters.{dedup_is}
 use Rattle.std.proofs.lemmas.List.Sorted.{list_any-IsPermutation}
-use Rattle.ci_server_lookups.specs.Unfinished.{has_number}
+use Rattle.ci_server_lookups.specs.Prelude.{has_number}
 use Rattle.ci_server_lookups.proofs.OpenRows.{number_once}
 use Rattle.ci_server_lookups.proofs.unfinished.each_once.Goals as goal
 

@@ -1,8 +1,7 @@
-use Rattle.std.proofs.Common.{◌≡◌, ℕ, take}
-use Rattle.std.specs.Prelude.{◌||◌, Ok}
+use Rattle.std.proofs.Common.{◌≡◌, ℕ, take, ◌||◌, Ok}
 use Rattle.std.specs.List.{list_any}
-use Rattle.ci_store.specs.Store.{LoadsBy}
-use Rattle.ci_server_lookups.specs.Unfinished.{has_number, opens}
+use Rattle.ci_store.specs.Prelude.{LoadsBy}
+use Rattle.ci_server_lookups.specs.Prelude.{has_number, opens}
 use Rattle.ci_server_lookups.proofs.unfinished.push_each.Given as goal
 
 -- the pipelines that aren't finished by one of the rows so far are added

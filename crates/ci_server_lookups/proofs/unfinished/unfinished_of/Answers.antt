@@ -1,9 +1,7 @@
-use Rattle.std.specs.Prelude.{◌||◌}
+use Rattle.std.proofs.Common.{◌||◌, ap, ◌∙◌}
 use Rattle.std.specs.List.{list_any}
-use Rattle.std.proofs.Common.{ap, ◌∙◌}
-use Rattle.ci_board.specs.declared.facts.Status.TheVariants as status
-use Rattle.ci_machine.specs.Ranges.{rows_with}
-use Rattle.ci_server_lookups.specs.Unfinished.{has_number, opens}
+use Rattle.ci_machine_steps.specs.Prelude.{Status, rows_with}
+use Rattle.ci_server_lookups.specs.Prelude.{has_number, opens}
 use Rattle.ci_server_lookups.proofs.Loading.{so, with_both}
 use Rattle.ci_server_lookups.proofs.OpenRows.{are_open}
 use Rattle.ci_server_lookups.proofs.unfinished.unfinished_of.Goals as goal
@@ -20,6 +18,6 @@ returns g c =
     (λ k before manual kept.
     are_open k c.each_once.result.items kept
     (λ n. c.each_once.ensures n ∙ manual n
-    ∙ ap (λ b. b || list_any (opens k.state n) (rows_with status.Manual k.board))
-    (before.1 n ∙ ap (λ b. b || list_any (opens k.state n) (rows_with status.Pending k.board))
-    (before.0 n ∙ ap (λ l. has_number n l || list_any (opens k.state n) (rows_with status.Running k.board)) c.new-numbers.ensures.items))))
+    ∙ ap (λ b. b || list_any (opens k.state n) (rows_with Status.Manual k.board))
+    (before.1 n ∙ ap (λ b. b || list_any (opens k.state n) (rows_with Status.Pending k.board))
+    (before.0 n ∙ ap (λ l. has_number n l || list_any (opens k.state n) (rows_with Status.Running k.board)) c.new-numbers.ensures.items))))

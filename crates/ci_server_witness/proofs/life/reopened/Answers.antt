@@ -1,8 +1,8 @@
 use Rattle.std.proofs.Common.{subst, sym, inl}
 use Rattle.sqlite.specs.Steps.{over_memory}
 use Rattle.sqlite.proofs.Callers.{memory_is_clean}
-use Rattle.ci_store_sqlite.specs.Version1.{LeavesAny}
-use Rattle.ci_server.specs.Server.{Opens}
+use Rattle.ci_store_sqlite.specs.Prelude.{LeavesAny}
+use Rattle.ci_server.specs.Prelude.{Opens}
 use Rattle.ci_server_witness.proofs.LifeLemmas.{reopened_at}
 use Rattle.ci_server_witness.proofs.life.reopened.Goals as goal
 

@@ -1,5 +1,5 @@
 use Rattle.std.proofs.Common.{refl, []}
-use Rattle.ci_server.specs.Lifetime.{was_made, was_found}
+use Rattle.ci_server.specs.Prelude.{was_made, was_found}
 use Rattle.ci_server_witness.proofs.StoppedLemmas.{names}
 use Rattle.ci_server_witness.proofs.stopped.stopped_within_a_grant.Goals as goal
 

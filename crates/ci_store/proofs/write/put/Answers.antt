@@ -1,6 +1,5 @@
 use Rattle.std.proofs.Common.{rules, ◌≡◌, refl, inl, inr, arith, subst}
-use Rattle.sqlite.specs.Values.{bound}
-use Rattle.ci_store.specs.Statements.{Changes}
+use Rattle.ci_store.specs.Prelude.{bound, Changes}
 use Rattle.ci_store.proofs.write.put.Goals as goal
 
 pub returns-then-is_new-clause-put : goal.returns-then-is_new-clause-put

@@ -1,7 +1,7 @@
 use Rattle.std.proofs.Common.{◌≡◌, take}
 use Rattle.std.specs.List.{flat_map}
-use Rattle.sqlite.specs.Order.{column}
-use Rattle.ci_store_rows.specs.Load.{bytes_in}
+use Rattle.ci_store.specs.Prelude.{column}
+use Rattle.ci_store_rows.specs.Prelude.{bytes_in}
 use Rattle.ci_store_rows.proofs.block.joined.Given as goal
 
 abbrev pub invariant-loop-row : goal.invariant-loop-row

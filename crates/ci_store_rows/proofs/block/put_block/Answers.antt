@@ -1,8 +1,7 @@
 use Rattle.std.proofs.Common.{[], ◌∷◌, subst}
-use Rattle.sqlite.specs.Values.{bound_value}
-use Rattle.ci_store.specs.Statements.{HasPut}
+use Rattle.ci_store.specs.Prelude.{bound_value, HasPut}
 use Rattle.ci_store.proofs.Scalars.{on_ok}
-use Rattle.ci_store_rows.specs.declared.texts.TheConstants.{UPDATE_BLOCK, INSERT_BLOCK}
+use Rattle.ci_store_rows.specs.Prelude.{UPDATE_BLOCK, INSERT_BLOCK}
 use Rattle.ci_store_rows.proofs.Blocks.{block_puts}
 use Rattle.ci_store_rows.proofs.block.put_block.Goals as goal
 

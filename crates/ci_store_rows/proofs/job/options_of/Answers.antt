@@ -1,5 +1,5 @@
 use Rattle.std.proofs.Common.{string_bytes, subst}
-use Rattle.ci_store_rows.specs.Reads.{ReadsSpec}
+use Rattle.ci_store_rows.specs.Prelude.{ReadsSpec}
 use Rattle.ci_store_rows.proofs.Reading.{if_ok}
 use Rattle.ci_store_rows.proofs.job.options_of.Goals as goal
 

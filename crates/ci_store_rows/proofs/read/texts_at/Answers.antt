@@ -1,5 +1,5 @@
 use Rattle.std.proofs.Common.{string_bytes, subst}
-use Rattle.ci_store_rows.specs.Reads.{ReadsList}
+use Rattle.ci_store_rows.specs.Prelude.{ReadsList}
 use Rattle.ci_store_rows.proofs.Reading.{if_ok}
 use Rattle.ci_store_rows.proofs.read.texts_at.Goals as goal
 

@@ -1,9 +1,8 @@
 use Rattle.std.proofs.Common.{rules, ◌≡◌, ◌<◌, ◌≤◌, ◌+◌, ◌∙◌, length, refl, subst, arith}
-use Rattle.sqlite.specs.State.{HasCleanDisk}
-use Rattle.sqlite.specs.Held.{state}
+use Rattle.ci_store.specs.Prelude.{HasCleanDisk, state}
 use Rattle.sqlite.proofs.StateLemmas.{survives_then}
 use Rattle.sqlite.proofs.InsideLemmas.{keeps_then}
-use Rattle.ci_store_rows.specs.declared.block.TheConstants.{BLOCK_BYTES}
+use Rattle.ci_store_sqlite.specs.Prelude.{BLOCK_BYTES}
 use Rattle.ci_store_sqlite.proofs.Committing.{survives_same}
 use Rattle.ci_store_sqlite.proofs.Appending.{AddsSoFar, adds_none, adds_more, adds_all}
 use Rattle.ci_store_sqlite.proofs.append.add_blocks.Goals as goal

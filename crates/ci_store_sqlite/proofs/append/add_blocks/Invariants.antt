@@ -1,6 +1,5 @@
 use Rattle.std.proofs.Common.{◌≡◌, length, IsTrue}
-use Rattle.sqlite.specs.State.{HasCleanDisk, KeepsCommit, Survives}
-use Rattle.sqlite.specs.Held.{state}
+use Rattle.ci_store.specs.Prelude.{HasCleanDisk, KeepsCommit, Survives, state}
 use Rattle.ci_store_sqlite.proofs.Appending.{AddsSoFar}
 use Rattle.ci_store_sqlite.proofs.append.add_blocks.Given as goal
 

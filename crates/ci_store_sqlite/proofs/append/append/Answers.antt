@@ -1,12 +1,7 @@
 use Rattle.std.proofs.Common.{◌<◌, rules, ◌≡◌, ◌+◌, ◌*◌, ◌∙◌, length, Some, None, sym, subst, ap, arith}
-use Rattle.sqlite.specs.State.{HasCleanDisk}
-use Rattle.sqlite.specs.Held.{state}
-use Rattle.ci_store_rows.specs.declared.block.TheConstants.{BLOCK_BYTES}
-use Rattle.ci_store_rows.specs.Blocks.{last_block}
-use Rattle.ci_store_rows.specs.Stands.{Stands}
-use Rattle.ci_store_rows.specs.Changes.{appended}
+use Rattle.ci_store.specs.Prelude.{HasCleanDisk, state}
+use Rattle.ci_store_sqlite.specs.Prelude.{BLOCK_BYTES, last_block, Stands, appended, kept_trace}
 use Rattle.ci_store_rows.proofs.Blocks.{stands_without_bytes}
-use Rattle.ci_store_sqlite.specs.Appends.{kept_trace}
 use Rattle.ci_store_sqlite.proofs.Looking.{on_ok}
 use Rattle.ci_store_sqlite.proofs.Appending.{nothing, begins, in_both}
 use Rattle.ci_store_sqlite.proofs.append.append.Goals as goal

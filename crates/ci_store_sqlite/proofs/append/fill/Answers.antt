@@ -1,7 +1,6 @@
 use Rattle.std.proofs.Common.{rules, ◌≡◌, ◌<◌, ◌++◌, length, sym, subst}
-use Rattle.sqlite.specs.Held.{state}
-use Rattle.ci_store_rows.specs.Stands.{Stands}
-use Rattle.ci_store_rows.specs.Changes.{appended}
+use Rattle.ci_store.specs.Prelude.{state}
+use Rattle.ci_store_sqlite.specs.Prelude.{Stands, appended}
 use Rattle.ci_store_rows.proofs.Blocks.{stands_without_bytes}
 use Rattle.ci_store_sqlite.proofs.Looking.{on_ok}
 use Rattle.ci_store_sqlite.proofs.Appending.{nothing, filled}

@@ -1,6 +1,6 @@
 use Rattle.std.proofs.Common.{rules, ◌≡◌, ◌∙◌, ◌<◌, ◌≤◌, [], ◌∷◌, length, get_or, Some, None}
-use Rattle.sqlite.specs.Values.{bound_value}
-use Rattle.ci_store_rows.specs.Rows.{number, block_row}
+use Rattle.ci_store.specs.Prelude.{bound_value}
+use Rattle.ci_store_sqlite.specs.Prelude.{number, block_row}
 use Rattle.ci_store_sqlite.proofs.Looking.{by_params, none_read, one_read}
 use Rattle.ci_store_sqlite.proofs.Appending.{found_inside}
 use Rattle.ci_store_sqlite.proofs.append.last_block.Goals as goal

@@ -1,8 +1,6 @@
 use Rattle.std.proofs.Common.{rules, ◌≡◌, arith}
-use Rattle.sqlite.specs.State.{HasCleanDisk}
-use Rattle.sqlite.specs.Held.{state}
-use Rattle.ci_machine.specs.Kept.{cleared, written}
-use Rattle.ci_store_sqlite.specs.Commit.{CommitsAll}
+use Rattle.ci_store.specs.Prelude.{HasCleanDisk, state, cleared, written}
+use Rattle.ci_store_sqlite.specs.Prelude.{CommitsAll}
 use Rattle.ci_store_sqlite.proofs.Committing.{survives_all, is_back, is_done_all, commits_all}
 use Rattle.ci_store_sqlite.proofs.commit.attempt.Goals as goal
 

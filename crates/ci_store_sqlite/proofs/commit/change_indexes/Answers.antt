@@ -1,10 +1,8 @@
 use Rattle.std.proofs.Common.{rules, ◌≡◌, ◌∙◌, refl, sym, ap, subst, take, get_or, arith}
-use Rattle.sqlite.specs.State.{HasCleanDisk}
-use Rattle.sqlite.specs.Held.{state}
+use Rattle.ci_store.specs.Prelude.{HasCleanDisk, state, indexed, indexed_all}
 use Rattle.sqlite.proofs.StateLemmas.{survives_then}
 use Rattle.sqlite.proofs.InsideLemmas.{keeps_then}
-use Rattle.ci_machine.specs.Kept.{indexed, indexed_all}
-use Rattle.ci_store_rows.specs.Stands.{Stands}
+use Rattle.ci_store_sqlite.specs.Prelude.{Stands}
 use Rattle.std.proofs.lemmas.List.{take_all}
 use Rattle.ci_store_sqlite.proofs.Committing.{survives_same}
 use Rattle.ci_store_sqlite.proofs.Applied.{indexed_more}

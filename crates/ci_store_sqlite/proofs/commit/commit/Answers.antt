@@ -1,10 +1,6 @@
 use Rattle.std.proofs.Common.{◌≡◌, ◌∙◌, refl, sym, subst, ap, inr, arith, not}
-use Rattle.sqlite.specs.State.{HasCleanDisk}
-use Rattle.sqlite.specs.Held.{Held, state}
-use Rattle.sqlite.specs.Store.{Ghosts}
-use Rattle.ci_machine.specs.Kept.{Kept, cleared, written}
-use Rattle.ci_store_rows.specs.Stands.{IsAt, LeavesOnly}
-use Rattle.ci_store_sqlite.specs.Commit.{is_done}
+use Rattle.ci_store.specs.Prelude.{HasCleanDisk, Held, state, Ghosts, Kept, cleared, written}
+use Rattle.ci_store_sqlite.specs.Prelude.{IsAt, LeavesOnly, is_done}
 use Rattle.ci_store_sqlite.proofs.Committing.{back_at, done_only, left_either}
 use Rattle.ci_store_sqlite.proofs.commit.commit.Goals as goal
 

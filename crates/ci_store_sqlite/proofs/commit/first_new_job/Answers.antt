@@ -1,6 +1,6 @@
 use Rattle.std.proofs.Common.{◌≡◌, ◌∙◌, true, false, if◌then◌else◌, sym, ap}
 use Rattle.std.specs.List.{list_any}
-use Rattle.ci_store_sqlite.specs.Commit.{is_next_job}
+use Rattle.ci_store_sqlite.specs.Prelude.{is_next_job}
 use Rattle.ci_store_sqlite.proofs.Looking.{loads_so, unasked}
 use Rattle.ci_store_sqlite.proofs.commit.first_new_job.Goals as goal
 

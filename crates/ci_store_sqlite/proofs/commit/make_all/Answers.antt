@@ -1,11 +1,8 @@
 use Rattle.std.proofs.Common.{rules, ◌≡◌, ◌∙◌, refl, sym, subst, take, arith, get_or, ap}
-use Rattle.sqlite.specs.State.{HasCleanDisk}
-use Rattle.sqlite.specs.Held.{state}
+use Rattle.ci_store.specs.Prelude.{HasCleanDisk, state, applied, changed}
 use Rattle.sqlite.proofs.StateLemmas.{survives_then}
 use Rattle.sqlite.proofs.InsideLemmas.{keeps_then}
-use Rattle.ci_machine.specs.State.{applied, changed}
-use Rattle.ci_store_rows.specs.Changes.{in_state}
-use Rattle.ci_store_rows.specs.Stands.{Stands}
+use Rattle.ci_store_sqlite.specs.Prelude.{in_state, Stands}
 use Rattle.std.proofs.lemmas.List.{take_all}
 use Rattle.ci_store_sqlite.proofs.Committing.{survives_same}
 use Rattle.ci_store_sqlite.proofs.Applied.{applied_more}

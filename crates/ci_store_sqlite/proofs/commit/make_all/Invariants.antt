@@ -1,8 +1,6 @@
 use Rattle.std.proofs.Common.{◌≡◌, take, IsTrue}
-use Rattle.sqlite.specs.State.{HasCleanDisk, KeepsCommit, Survives}
-use Rattle.sqlite.specs.Held.{state}
-use Rattle.ci_machine.specs.State.{applied}
-use Rattle.ci_store_rows.specs.Changes.{in_state, Makes}
+use Rattle.ci_store.specs.Prelude.{HasCleanDisk, KeepsCommit, Survives, state, applied}
+use Rattle.ci_store_sqlite.specs.Prelude.{in_state, Makes}
 use Rattle.ci_store_sqlite.proofs.commit.make_all.Given as goal
 
 abbrev pub invariant-loop-change : goal.invariant-loop-change

@@ -1,8 +1,6 @@
 use Rattle.std.proofs.Common.{◌≡◌, take, IsTrue}
-use Rattle.sqlite.specs.State.{HasCleanDisk, KeepsCommit, Survives}
-use Rattle.sqlite.specs.Held.{state}
-use Rattle.ci_machine.specs.Kept.{put_rows}
-use Rattle.ci_store_rows.specs.Changes.{in_board, Makes}
+use Rattle.ci_store.specs.Prelude.{HasCleanDisk, KeepsCommit, Survives, state, put_rows}
+use Rattle.ci_store_sqlite.specs.Prelude.{in_board, Makes}
 use Rattle.ci_store_sqlite.proofs.commit.put_rows.Given as goal
 
 abbrev pub invariant-loop-row : goal.invariant-loop-row

@@ -1,6 +1,5 @@
 use Rattle.std.proofs.Common.{arith}
-use Rattle.sqlite.specs.State.{HasCleanDisk}
-use Rattle.sqlite.specs.Held.{state}
+use Rattle.ci_store.specs.Prelude.{HasCleanDisk, state}
 use Rattle.ci_store_sqlite.proofs.Looking.{on_ok}
 use Rattle.ci_store_sqlite.proofs.commit.write_all.Goals as goal
 

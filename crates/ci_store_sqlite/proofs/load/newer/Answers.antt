@@ -1,7 +1,6 @@
 use Rattle.std.proofs.Common.{◌∙◌, [], ◌∷◌}
-use Rattle.sqlite.specs.declared.types.Value.TheVariants.{Text}
-use Rattle.sqlite.specs.Values.{bound_value}
-use Rattle.ci_store_rows.specs.Rows.{number}
+use Rattle.ci_store.specs.Prelude.{Text, bound_value}
+use Rattle.ci_store_sqlite.specs.Prelude.{number}
 use Rattle.ci_store_sqlite.proofs.Looking.{looked_so, by_params}
 use Rattle.ci_store_rows.proofs.Pipelines.{plain_select_newer, newer_found}
 use Rattle.ci_store_sqlite.proofs.load.newer.Goals as goal

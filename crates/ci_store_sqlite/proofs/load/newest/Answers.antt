@@ -1,5 +1,5 @@
 use Rattle.std.proofs.Common.{[], ◌∷◌}
-use Rattle.sqlite.specs.Values.{bound_value}
+use Rattle.ci_store.specs.Prelude.{bound_value}
 use Rattle.ci_store_sqlite.proofs.Looking.{looked_so, by_params}
 use Rattle.ci_store_rows.proofs.Pipelines.{plain_select_newest, newest_found}
 use Rattle.ci_store_sqlite.proofs.load.newest.Goals as goal

@@ -1,11 +1,6 @@
 use Rattle.std.proofs.Common.{rules, ◌≡◌, ◌∙◌, [], ◌∷◌, subst}
-use Rattle.sqlite.specs.declared.types.Value.TheVariants.{Text}
-use Rattle.sqlite.specs.Values.{bound_value}
-use Rattle.sqlite.specs.State.{Shown}
-use Rattle.sqlite.specs.Held.{state}
-use Rattle.ci_store_rows.specs.declared.texts.TheConstants.{SELECT_META}
-use Rattle.ci_store_rows.specs.Stands.{counter_key, meta_row}
-use Rattle.ci_machine.specs.Lookups.{next_of}
+use Rattle.ci_store.specs.Prelude.{Text, bound_value, Shown, state, next_of}
+use Rattle.ci_store_sqlite.specs.Prelude.{SELECT_META, counter_key, meta_row}
 use Rattle.ci_store_rows.proofs.NextLoads.{plain_meta, next_found, number_read}
 use Rattle.ci_store_sqlite.proofs.Looking.{after_look}
 use Rattle.ci_store_sqlite.proofs.load.next.Goals as goal

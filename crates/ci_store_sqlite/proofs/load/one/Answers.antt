@@ -1,6 +1,6 @@
 use Rattle.std.proofs.Common.{rules, ◌≡◌, ◌<◌, ◌≤◌, length, get_or}
-use Rattle.sqlite.specs.Values.{bound}
-use Rattle.ci_store_rows.specs.Found.{ShowsRecords, listed}
+use Rattle.ci_store.specs.Prelude.{bound}
+use Rattle.ci_store_sqlite.specs.Prelude.{ShowsRecords, listed}
 use Rattle.ci_store_sqlite.proofs.Looking.{after_look, none_read, one_read}
 use Rattle.ci_store_sqlite.proofs.load.one.Goals as goal
 

@@ -1,9 +1,7 @@
 use Rattle.std.proofs.Common.{rules, ◌<◌, [], ◌∷◌, Option, Ok, Err, None, inl, inr, refl, subst}
-use Rattle.ci_machine.specs.Kept.{Kept}
+use Rattle.ci_store.specs.Prelude.{Kept}
 use Rattle.ci_store.specs.declared.fault.StoreFault.TheVariants.{Broken}
-use Rattle.ci_store_rows.specs.declared.columns.TheConstants.{LAST_INTEGER}
-use Rattle.ci_store_rows.specs.Found.{ShowsRecords, FindsNumber, listed}
-use Rattle.ci_store_rows.specs.Rows.{number}
+use Rattle.ci_store_sqlite.specs.Prelude.{LAST_INTEGER, ShowsRecords, FindsNumber, listed, number}
 use Rattle.ci_store_sqlite.proofs.Looking.{looked_so, after_look}
 use Rattle.ci_store_sqlite.proofs.load.one_named.Goals as goal
 use Rattle.ci_store_sqlite.proofs.load.one_named.Goals.{in-None, in-Some}

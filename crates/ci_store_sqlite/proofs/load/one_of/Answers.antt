@@ -1,5 +1,5 @@
 use Rattle.std.proofs.Common.{[], ◌∷◌}
-use Rattle.sqlite.specs.Values.{bound_value}
+use Rattle.ci_store.specs.Prelude.{bound_value}
 use Rattle.ci_store_sqlite.proofs.Looking.{looked_so, by_params}
 use Rattle.ci_store_sqlite.proofs.load.one_of.Goals as goal
 

@@ -1,11 +1,7 @@
 use Rattle.std.proofs.Common.{◌∙◌, [], ◌∷◌, ap, subst}
 use Rattle.std.specs.List.{flat_map}
-use Rattle.sqlite.specs.Order.{column}
-use Rattle.sqlite.specs.State.{Shown}
-use Rattle.sqlite.specs.Values.{bound_value}
-use Rattle.sqlite.specs.Held.{state}
-use Rattle.ci_store_rows.specs.declared.texts.TheConstants.{SELECT_BLOCKS}
-use Rattle.ci_store_rows.specs.Load.{bytes_in}
+use Rattle.ci_store.specs.Prelude.{column, Shown, bound_value, state}
+use Rattle.ci_store_sqlite.specs.Prelude.{SELECT_BLOCKS, bytes_in}
 use Rattle.ci_store_rows.proofs.Blocks.{plain_select_of, trace_joined}
 use Rattle.ci_store_rows.proofs.Reading.{if_ok}
 use Rattle.ci_store_sqlite.proofs.Looking.{after_look}

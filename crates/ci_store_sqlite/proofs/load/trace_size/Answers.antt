@@ -1,7 +1,7 @@
 use Rattle.std.proofs.Common.{◌∙◌, sym}
 use Rattle.ci_store_rows.proofs.BlockLists.{no_last, its_last}
 use Rattle.ci_store_rows.proofs.Reading.{if_ok}
-use Rattle.ci_store_sqlite.specs.Appends.{kept_trace}
+use Rattle.ci_store_sqlite.specs.Prelude.{kept_trace}
 use Rattle.ci_store_sqlite.proofs.Looking.{after_look}
 use Rattle.ci_store_sqlite.proofs.load.trace_size.Goals as goal
 

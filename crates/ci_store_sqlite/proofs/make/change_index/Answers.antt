@@ -1,10 +1,9 @@
 use Rattle.std.proofs.Common.{[], subst, sym}
-use Rattle.sqlite.specs.Held.{state}
-use Rattle.ci_machine.specs.Kept.{indexed}
+use Rattle.ci_store.specs.Prelude.{state, indexed}
 use Rattle.ci_store_sqlite.proofs.Applied.{by_item}
 use Rattle.ci_store_rows.proofs.Removals.{removed_indexed}
 use Rattle.ci_store_rows.proofs.Holders.{holder_freed}
-use Rattle.ci_store_rows.specs.Stands.{Stands}
+use Rattle.ci_store_sqlite.specs.Prelude.{Stands}
 use Rattle.ci_store_rows.proofs.OneList.{stands_with_unfinished}
 use Rattle.ci_store_sqlite.proofs.make.change_index.Goals as goal
 

@@ -1,5 +1,5 @@
-use Rattle.ci_machine.specs.State.{changed}
-use Rattle.ci_store_rows.specs.Changes.{in_state}
+use Rattle.ci_store.specs.Prelude.{changed}
+use Rattle.ci_store_sqlite.specs.Prelude.{in_state}
 use Rattle.ci_store_sqlite.proofs.Applied.{by_item}
 use Rattle.ci_store_sqlite.proofs.make.make.Goals as goal
 

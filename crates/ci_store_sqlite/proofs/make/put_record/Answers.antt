@@ -1,5 +1,5 @@
-use Rattle.ci_machine.specs.State.{with_record}
-use Rattle.ci_store_rows.specs.Changes.{in_state}
+use Rattle.ci_store.specs.Prelude.{with_record}
+use Rattle.ci_store_sqlite.specs.Prelude.{in_state}
 use Rattle.ci_store_sqlite.proofs.Applied.{by_item}
 use Rattle.ci_store_sqlite.proofs.make.put_record.Goals as goal
 

@@ -1,11 +1,9 @@
 use Rattle.std.proofs.Common.{◌≡◌, ◌∙◌, take, map, sym, subst, arith}
 use Rattle.std.proofs.lemmas.List.{take_more, take_all}
-use Rattle.sqlite.specs.State.{HasCleanDisk}
-use Rattle.sqlite.specs.Values.{bound}
-use Rattle.sqlite.specs.Held.{state}
+use Rattle.ci_store.specs.Prelude.{HasCleanDisk, bound, state}
 use Rattle.sqlite.proofs.StateLemmas.{survives_then}
 use Rattle.sqlite.proofs.InsideLemmas.{keeps_then}
-use Rattle.ci_store_rows.specs.Changes.{ShowsNone}
+use Rattle.ci_store_sqlite.specs.Prelude.{ShowsNone}
 use Rattle.ci_store_rows.proofs.Removals.{one_more}
 use Rattle.ci_store_sqlite.proofs.make.remove.Goals as goal
 

@@ -1,8 +1,6 @@
 use Rattle.std.proofs.Common.{◌≡◌, take, map, IsTrue}
-use Rattle.sqlite.specs.State.{HasCleanDisk, KeepsCommit, Survives}
-use Rattle.sqlite.specs.Values.{bound}
-use Rattle.sqlite.specs.Held.{state}
-use Rattle.ci_store_rows.specs.Changes.{ShowsNone}
+use Rattle.ci_store.specs.Prelude.{HasCleanDisk, KeepsCommit, Survives, bound, state}
+use Rattle.ci_store_sqlite.specs.Prelude.{ShowsNone}
 use Rattle.ci_store_sqlite.proofs.make.remove.Given as goal
 
 abbrev pub invariant-loop-query : goal.invariant-loop-query

@@ -1,6 +1,6 @@
 use Rattle.std.proofs.Common.{[], ◌∷◌, map}
-use Rattle.sqlite.specs.Values.{bound, bound_value}
-use Rattle.ci_store_rows.specs.Rows.{number}
+use Rattle.ci_store.specs.Prelude.{bound, bound_value}
+use Rattle.ci_store_sqlite.specs.Prelude.{number}
 use Rattle.ci_store_rows.proofs.Removals.{by_key}
 use Rattle.ci_store_sqlite.proofs.make.remove_at.Goals as goal
 

@@ -1,7 +1,6 @@
 use Rattle.std.proofs.Common.{[], ◌∷◌}
-use Rattle.sqlite.specs.declared.types.Value.TheVariants.{Text}
-use Rattle.sqlite.specs.Values.{bound, bound_value}
-use Rattle.ci_store_rows.specs.Rows.{number}
+use Rattle.ci_store.specs.Prelude.{Text, bound, bound_value}
+use Rattle.ci_store_sqlite.specs.Prelude.{number}
 use Rattle.ci_store_rows.proofs.Removals.{by_key}
 use Rattle.ci_store_sqlite.proofs.make.remove_named.Goals as goal
 

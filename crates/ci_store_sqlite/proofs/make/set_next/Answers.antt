@@ -1,10 +1,6 @@
 use Rattle.std.proofs.Common.{rules, ◌≡◌, ◌∙◌, [], ◌∷◌, subst}
-use Rattle.sqlite.specs.declared.types.Value.TheVariants.{Text}
-use Rattle.sqlite.specs.Values.{bound_value}
-use Rattle.ci_store.specs.Statements.{Changes}
-use Rattle.ci_store_rows.specs.declared.texts.TheConstants.{UPDATE_META}
-use Rattle.ci_store_rows.specs.Rows.{number}
-use Rattle.ci_store_rows.specs.Stands.{counter_key, meta_row}
+use Rattle.ci_store.specs.Prelude.{Text, bound_value, Changes}
+use Rattle.ci_store_sqlite.specs.Prelude.{UPDATE_META, number, counter_key, meta_row}
 use Rattle.ci_store_rows.proofs.Meta.{next_sets}
 use Rattle.ci_store_sqlite.proofs.make.set_next.Goals as goal
 

@@ -1,11 +1,8 @@
 use Rattle.std.proofs.Common.{rules, ◌≡◌, arith}
-use Rattle.sqlite.specs.State.{HasCleanDisk}
-use Rattle.sqlite.specs.Held.{state}
+use Rattle.ci_store.specs.Prelude.{HasCleanDisk, state, Kept}
 use Rattle.sqlite.proofs.StateLemmas.{survives_then}
-use Rattle.ci_machine.specs.Kept.{Kept}
-use Rattle.ci_store_rows.specs.Stands.{StandsIn}
+use Rattle.ci_store_sqlite.specs.Prelude.{StandsIn, Stands1}
 use Rattle.ci_store_sqlite.proofs.Committing.{survives_all}
-use Rattle.ci_store_sqlite.specs.Version1.{Stands1}
 use Rattle.ci_store_sqlite.proofs.Migrates.{commits_both, is_at_both}
 use Rattle.ci_store_sqlite.proofs.migrate.commit_both.Goals as goal
 

@@ -1,4 +1,4 @@
-use Rattle.sqlite.specs.Held.{state}
+use Rattle.ci_store.specs.Prelude.{state}
 use Rattle.ci_store_sqlite.proofs.Migrates.{makes_table}
 use Rattle.ci_store_sqlite.proofs.migrate.make_table.Goals as goal
 

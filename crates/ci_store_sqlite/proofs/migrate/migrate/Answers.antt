@@ -1,7 +1,6 @@
 use Rattle.std.proofs.Common.{rules, ◌∙◌, codes, not, ap, arith}
-use Rattle.sqlite.specs.State.{HasCleanDisk, IsUnchanged}
-use Rattle.sqlite.specs.Held.{state}
-use Rattle.ci_store_sqlite.specs.Open.{HasNumber}
+use Rattle.ci_store.specs.Prelude.{HasCleanDisk, IsUnchanged, state}
+use Rattle.ci_store_sqlite.specs.Prelude.{HasNumber}
 use Rattle.ci_store_sqlite.proofs.Versions.{stands_as_1, leaves_any, survives_both}
 use Rattle.ci_store_sqlite.proofs.migrate.migrate.Goals as goal
 

@@ -1,9 +1,6 @@
 use Rattle.std.proofs.Common.{rules, ◌≡◌, ◌∙◌, [], ◌∷◌, codes, refl, subst}
-use Rattle.sqlite.specs.Values.{bound_value}
-use Rattle.sqlite.specs.Held.{state}
-use Rattle.ci_store.specs.Statements.{Changes}
-use Rattle.ci_store_rows.specs.declared.texts.TheConstants.{UPDATE_META}
-use Rattle.ci_store_rows.specs.Stands.{meta_row}
+use Rattle.ci_store.specs.Prelude.{bound_value, state, Changes}
+use Rattle.ci_store_sqlite.specs.Prelude.{UPDATE_META, meta_row}
 use Rattle.ci_store_sqlite.proofs.Migrates.{writes_version}
 use Rattle.ci_store_sqlite.proofs.migrate.write_version.Goals as goal
 

@@ -1,9 +1,6 @@
 use Rattle.std.proofs.Common.{rules, arith, ◌≡◌, ◌≢◌, codes, sym, subst}
-use Rattle.sqlite.specs.State.{HasCleanDisk, IsUnchanged}
-use Rattle.sqlite.specs.Held.{state}
-use Rattle.ci_store_rows.specs.Stands.{IsAt}
-use Rattle.ci_store_sqlite.specs.Open.{HasNumber, LacksNumber, Blames, IsFailure}
-use Rattle.ci_store_sqlite.specs.declared.tables.OpenFault.TheVariants.{O2}
+use Rattle.ci_store.specs.Prelude.{HasCleanDisk, IsUnchanged, state}
+use Rattle.ci_store_sqlite.specs.Prelude.{IsAt, HasNumber, LacksNumber, Blames, IsFailure, O2}
 use Rattle.ci_store_sqlite.proofs.AnyOpenings.{blames_any, refuses_any, own_fault, only_2, any_mid, left_of_2, as_it_was}
 use Rattle.ci_store_sqlite.proofs.open.open.Goals as goal
 

@@ -1,7 +1,6 @@
 use Rattle.std.proofs.Common.{◌≡◌, ◌∙◌, sym, subst, ap, ⊎_elim, not}
-use Rattle.sqlite.specs.Effect.{IsDatabase}
-use Rattle.sqlite.specs.Held.{state}
-use Rattle.ci_store_rows.specs.Stands.{LeavesOnly}
+use Rattle.ci_store.specs.Prelude.{IsDatabase, state}
+use Rattle.ci_store_sqlite.specs.Prelude.{LeavesOnly}
 use Rattle.ci_store_sqlite.proofs.Looking.{on_ok, open_at}
 use Rattle.ci_store_sqlite.proofs.probe.probe_intact.Goals as goal
 

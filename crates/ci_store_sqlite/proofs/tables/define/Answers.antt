@@ -1,10 +1,9 @@
 use Rattle.std.proofs.Common.{inl, inr, ◌≡◌, ◌∙◌, refl, subst, arith}
-use Rattle.sqlite.specs.State.{HasCleanDisk}
-use Rattle.sqlite.specs.Held.{state}
+use Rattle.ci_store.specs.Prelude.{HasCleanDisk, state}
 use Rattle.sqlite.proofs.StateLemmas.{survives_then}
 use Rattle.ci_store_rows.proofs.Creates.{runs_next, runs_mode, below_twenty_one, schema_after}
 use Rattle.ci_store_sqlite.proofs.Committing.{survives_same}
-use Rattle.ci_store_rows.specs.Create.{IsBare}
+use Rattle.ci_store_sqlite.specs.Prelude.{IsBare}
 use Rattle.ci_store_sqlite.proofs.tables.define.Goals as goal
 
 pub loop-text-preserved : goal.loop-text-preserved

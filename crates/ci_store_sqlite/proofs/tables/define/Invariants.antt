@@ -1,7 +1,6 @@
 use Rattle.std.proofs.Common.{◌≡◌, IsTrue}
-use Rattle.sqlite.specs.State.{HasCleanDisk, Survives}
-use Rattle.sqlite.specs.Held.{state}
-use Rattle.ci_store_rows.specs.Create.{IsBlank, IsBare}
+use Rattle.ci_store.specs.Prelude.{HasCleanDisk, Survives, state}
+use Rattle.ci_store_sqlite.specs.Prelude.{IsBlank, IsBare}
 use Rattle.ci_store_rows.proofs.Creates.{schema_after}
 use Rattle.ci_store_sqlite.proofs.tables.define.Given as goal
 

@@ -1,12 +1,7 @@
 use Rattle.std.proofs.Common.{inl, inr, ◌≡◌, ◌∙◌, [], ◌∷◌, refl, subst, arith}
-use Rattle.sqlite.specs.State.{HasCleanDisk}
-use Rattle.sqlite.specs.Values.{bound_value}
-use Rattle.sqlite.specs.Held.{state}
+use Rattle.ci_store.specs.Prelude.{HasCleanDisk, bound_value, state, IsOf, Changes}
 use Rattle.sqlite.proofs.StateLemmas.{survives_then}
-use Rattle.ci_store.specs.Stands.{IsOf}
-use Rattle.ci_store.specs.Statements.{Changes}
-use Rattle.ci_store_rows.specs.declared.texts.TheConstants.{INSERT_META}
-use Rattle.ci_store_rows.specs.Schema.{the_schema}
+use Rattle.ci_store_sqlite.specs.Prelude.{INSERT_META, the_schema}
 use Rattle.ci_store_sqlite.proofs.Committing.{survives_same}
 use Rattle.ci_store_rows.proofs.Fills.{rows_after, begins, ends, fills_next, below_seven}
 use Rattle.ci_store_sqlite.proofs.tables.fill.Goals as goal

@@ -1,9 +1,6 @@
 use Rattle.std.proofs.Common.{◌≡◌, IsTrue}
-use Rattle.sqlite.specs.State.{HasCleanDisk, Survives}
-use Rattle.sqlite.specs.Held.{state}
-use Rattle.ci_store.specs.Stands.{IsOf}
-use Rattle.ci_store_rows.specs.Schema.{the_schema}
-use Rattle.ci_store_rows.specs.Create.{IsBare}
+use Rattle.ci_store.specs.Prelude.{HasCleanDisk, Survives, state, IsOf}
+use Rattle.ci_store_sqlite.specs.Prelude.{the_schema, IsBare}
 use Rattle.ci_store_rows.proofs.Fills.{rows_after}
 use Rattle.ci_store_sqlite.proofs.tables.fill.Given as goal
 

@@ -1,8 +1,6 @@
 use Rattle.std.proofs.Common.{rules, arith, ◌≡◌, ◌<◌, ◌≤◌, [], ◌∷◌, length, get_or, subst}
-use Rattle.sqlite.specs.Values.{bound_value}
-use Rattle.sqlite.specs.State.{Shown}
-use Rattle.sqlite.specs.Held.{state}
-use Rattle.ci_store_rows.specs.declared.texts.TheConstants.{SELECT_META}
+use Rattle.ci_store.specs.Prelude.{bound_value, Shown, state}
+use Rattle.ci_store_sqlite.specs.Prelude.{SELECT_META}
 use Rattle.ci_store_sqlite.proofs.Looking.{on_any}
 use Rattle.ci_store_sqlite.proofs.Openings.{survives_query, same_after_query, selected, one_found, none_found}
 use Rattle.ci_store_sqlite.proofs.tables.has_number.Goals as goal

@@ -1,9 +1,6 @@
 use Rattle.std.proofs.Common.{rules, ◌≡◌, arith}
-use Rattle.sqlite.specs.State.{HasCleanDisk}
-use Rattle.sqlite.specs.Held.{state}
-use Rattle.ci_machine.specs.Kept.{nothing_kept}
-use Rattle.ci_store_rows.specs.Create.{IsBlank}
-use Rattle.ci_store_rows.specs.Stands.{StandsIn}
+use Rattle.ci_store.specs.Prelude.{HasCleanDisk, state, nothing_kept}
+use Rattle.ci_store_sqlite.specs.Prelude.{IsBlank, StandsIn}
 use Rattle.ci_store_sqlite.proofs.Committing.{survives_all, is_at_empty, commits_empty}
 use Rattle.ci_store_sqlite.proofs.tables.make_tables.Goals as goal
 

@@ -1,8 +1,6 @@
 use Rattle.std.proofs.Common.{[], sym, subst}
-use Rattle.sqlite.specs.State.{IsNotRun}
-use Rattle.sqlite.specs.Held.{state}
-use Rattle.ci_store_rows.specs.declared.texts.TheConstants.{SELECT_META}
-use Rattle.ci_store_sqlite.specs.Open.{Blames, IsFailure}
+use Rattle.ci_store.specs.Prelude.{IsNotRun, state}
+use Rattle.ci_store_sqlite.specs.Prelude.{SELECT_META, Blames, IsFailure}
 use Rattle.ci_store_sqlite.proofs.Openings.{not_understood, not_run_same, blames_none, is_failure}
 use Rattle.ci_store_sqlite.proofs.tables.understands.Goals as goal
 use Rattle.ci_store_sqlite.proofs.tables.understands.Goals.{in-Ok, in-Err-SqlInputError, in-Err}

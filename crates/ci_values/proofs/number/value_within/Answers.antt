@@ -1,8 +1,7 @@
-use Rattle.std.proofs.Common.{◌≡◌, ap, sym, true, arith, ◌<◌, ◌+◌, nat_lt}
+use Rattle.std.proofs.Common.{◌≡◌, ap, sym, true, arith, ◌<◌, ◌+◌, nat_lt, ℕ, Some, None, if◌then◌else◌}
 use Rattle.std.proofs.lemmas.Int.Digits.{digits_value_more}
 use Rattle.std.proofs.lemmas.Str.Parse.{digits_value-take-le}
 use Rattle.std.proofs.lemmas.Bool.Decides.{nat_tests}
-use Rattle.std.specs.Prelude.{ℕ, Some, None, if◌then◌else◌}
 use Rattle.ci_values.specs.Numbers.{within}
 use Rattle.ci_values.proofs.number.value_within.Goals as goal
 

@@ -1,9 +1,5 @@
 use Rattle.std.proofs.Common.{◌∙◌, ap}
-use Rattle.ci_yaml_lines.specs.declared.code.Code.TheVariants.{Y3, Y9}
-use Rattle.ci_yaml_lines.specs.Scalar.{when}
-use Rattle.ci_yaml_lines.specs.Least.{least}
-use Rattle.ci_yaml_lines.specs.Line.{has_byte_order_mark}
-use Rattle.ci_yaml.specs.Block.{is_low}
+use Rattle.ci_yaml.specs.Prelude.{Y3, Y9, when, least, has_byte_order_mark, is_low}
 use Rattle.ci_yaml_lines.proofs.Leasts.{least_two}
 use Rattle.ci_yaml.proofs.block.block_code.Goals as goal
 

@@ -1,6 +1,5 @@
-use Rattle.std.proofs.Common.{◌∙◌, ap, sym, arith}
-use Rattle.std.specs.Prelude.{unwrap_or}
-use Rattle.ci_yaml_lines.specs.Line.{spaces}
+use Rattle.std.proofs.Common.{◌∙◌, ap, sym, arith, unwrap_or}
+use Rattle.ci_yaml.specs.Prelude.{spaces}
 use Rattle.ci_yaml.proofs.BlockLines.{indent-here, indent-next, indent-past}
 use Rattle.ci_yaml.proofs.block.block_indent.Goals as goal
 

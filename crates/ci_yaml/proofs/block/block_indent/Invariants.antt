@@ -1,6 +1,5 @@
 use Rattle.std.proofs.Common.{◌≡◌, drop}
-use Rattle.ci_yaml.specs.Block.{first_indent}
-use Rattle.ci_yaml.specs.Blocks.{texts_of}
+use Rattle.ci_yaml.specs.Prelude.{first_indent, texts_of}
 use Rattle.ci_yaml.proofs.block.block_indent.Given as goal
 
 abbrev pub invariant-loop-line : goal.invariant-loop-line

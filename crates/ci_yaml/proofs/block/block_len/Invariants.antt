@@ -1,6 +1,5 @@
 use Rattle.std.proofs.Common.{◌≡◌, take, []}
-use Rattle.ci_yaml.specs.Block.{first_indent, AreBlock}
-use Rattle.ci_yaml.specs.Blocks.{texts_of}
+use Rattle.ci_yaml.specs.Prelude.{first_indent, AreBlock, texts_of}
 use Rattle.ci_yaml.proofs.block.block_len.Given as goal
 
 abbrev pub invariant-loop-at : goal.invariant-loop-at

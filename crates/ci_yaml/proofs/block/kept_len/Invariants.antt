@@ -1,6 +1,5 @@
 use Rattle.std.proofs.Common.{◌≡◌, ◌≤◌, length}
-use Rattle.ci_yaml.specs.Block.{kept_len}
-use Rattle.ci_yaml.specs.Blocks.{texts_of}
+use Rattle.ci_yaml.specs.Prelude.{kept_len, texts_of}
 use Rattle.ci_yaml.proofs.block.kept_len.Given as goal
 
 abbrev pub invariant-scan : goal.invariant-scan

@@ -1,7 +1,5 @@
 use Rattle.std.proofs.Common.{◌∙◌, ap, sym, string_bytes, take}
-use Rattle.ci_yaml_lines.specs.View.{chomp_view}
-use Rattle.ci_yaml.specs.Block.{literal}
-use Rattle.ci_yaml.specs.Blocks.{texts_of}
+use Rattle.ci_yaml.specs.Prelude.{chomp_view, literal, texts_of}
 use Rattle.ci_yaml.proofs.BlockLines.{texts-front}
 use Rattle.ci_yaml.proofs.Literals.{keep-text, clip-text, strip-text}
 use Rattle.ci_yaml.proofs.block.literal.Goals as goal

@@ -1,5 +1,5 @@
 use Rattle.std.proofs.Common.{◌≡◌, ◌++◌, drop, string_bytes}
-use Rattle.ci_yaml.specs.Blocks.{texts_of, cut_lines}
+use Rattle.ci_yaml.specs.Prelude.{texts_of, cut_lines}
 use Rattle.ci_yaml.proofs.block.push_lines.Given as goal
 
 abbrev pub invariant-loop-line : goal.invariant-loop-line

@@ -1,14 +1,8 @@
-use Rattle.std.proofs.Common.{◌≡◌, ◌∙◌, true, false, List, [], ◌∷◌, ◌++◌, length, map, get_or, Result, refl, sym, ap, append_assoc, arith, rules, vec_len}
-use Rattle.std.specs.Prelude.{◌==◌, remove}
+use Rattle.std.proofs.Common.{◌≡◌, ◌∙◌, true, false, List, [], ◌∷◌, ◌++◌, length, map, get_or, Result, refl, sym, ap, append_assoc, arith, rules, vec_len, ◌==◌, remove}
 use Rattle.std.proofs.lemmas.Bool.{eqb-true}
 use Rattle.std.proofs.lemmas.List.{append-nil}
-use Rattle.ci_yaml_lines.specs.declared.code.Code.{Code}
+use Rattle.ci_yaml.specs.Prelude.{Code, entry_view, entry_texts, entries_texts, State, run, ◌>>=◌, state_view, state_texts}
 use Rattle.ci_yaml_lines.specs.declared.entry.Entry.{Entry}
-use Rattle.ci_yaml_lines.specs.View.{entry_view}
-use Rattle.ci_yaml_lines.specs.Spans.{entry_texts, entries_texts}
-use Rattle.ci_yaml.specs.Reading.{State, run, ◌>>=◌}
-use Rattle.ci_yaml.specs.View.{state_view}
-use Rattle.ci_yaml.specs.Spans.{state_texts}
 use Rattle.ci_yaml.proofs.entries.enter_all.Goals as goal
 
 first-parts : (old new : List Entry) (e : Entry) → (length old == 0) ≡ false → e ≡ get_or old 0 e → new ≡ remove old 0 → old ≡ e ∷ new

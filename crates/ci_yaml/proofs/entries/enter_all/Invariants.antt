@@ -1,9 +1,5 @@
 use Rattle.std.proofs.Common.{◌≡◌, ◌++◌, vec_len, map}
-use Rattle.ci_yaml_lines.specs.View.{entry_view}
-use Rattle.ci_yaml.specs.View.{state_view}
-use Rattle.ci_yaml.specs.Reading.{run}
-use Rattle.ci_yaml.specs.Spans.{state_texts}
-use Rattle.ci_yaml_lines.specs.Spans.{entries_texts}
+use Rattle.ci_yaml.specs.Prelude.{entry_view, state_view, run, state_texts, entries_texts}
 use Rattle.ci_yaml.proofs.entries.enter_all.Given as goal
 
 abbrev pub invariant-all : goal.invariant-all

@@ -1,10 +1,5 @@
-use Rattle.std.proofs.Common.{◌≡◌, ◌∙◌, List, [], ◌∷◌, ◌++◌, ap, sym, subst, append_assoc}
-use Rattle.std.specs.Prelude.{IfOk}
-use Rattle.ci_yaml_lines.specs.declared.tree.Text.{Text}
-use Rattle.ci_yaml_lines.specs.View.{given_view}
-use Rattle.ci_yaml_lines.specs.Spans.{given_texts}
-use Rattle.ci_yaml.specs.View.{state_view, Gives}
-use Rattle.ci_yaml.specs.Spans.{state_texts}
+use Rattle.std.proofs.Common.{◌≡◌, ◌∙◌, List, [], ◌∷◌, ◌++◌, ap, sym, subst, append_assoc, IfOk}
+use Rattle.ci_yaml.specs.Prelude.{Text, given_view, given_texts, state_view, Gives, state_texts}
 use Rattle.ci_yaml.proofs.entries.next_pair.Goals as goal
 
 pub returns-clause-value : goal.returns-clause-value

@@ -1,6 +1,5 @@
 use Rattle.std.proofs.Common.{[], refl}
-use Rattle.ci_yaml.specs.Document.{none}
-use Rattle.ci_yaml.specs.ReadLines.{beginning}
+use Rattle.ci_yaml.specs.Prelude.{none, beginning}
 use Rattle.ci_yaml.proofs.LinesSound.{read-stands}
 use Rattle.ci_yaml.proofs.Trees.{stops, stop-is_first}
 use Rattle.ci_yaml.proofs.LeastCodes.{stop-least}

@@ -1,8 +1,5 @@
-use Rattle.std.proofs.Common.{◌≡◌, ◌∷◌, ◌++◌, [], List, ◌∙◌, ap, sym, subst, append_assoc}
-use Rattle.std.specs.Prelude.{IfOk}
-use Rattle.ci_yaml_lines.specs.declared.tree.Text.{Text}
-use Rattle.ci_yaml_lines.specs.Spans.{texts_in, given_texts}
-use Rattle.ci_yaml.specs.Spans.{frames_texts}
+use Rattle.std.proofs.Common.{◌≡◌, ◌∷◌, ◌++◌, [], List, ◌∙◌, ap, sym, subst, append_assoc, IfOk}
+use Rattle.ci_yaml.specs.Prelude.{Text, texts_in, given_texts, frames_texts}
 use Rattle.ci_yaml.proofs.members.enter_pair.Goals as goal
 
 pub returns-clause-spans : goal.returns-clause-spans

@@ -1,8 +1,5 @@
-use Rattle.std.proofs.Common.{◌∙◌, ap, sym, None}
-use Rattle.std.specs.Prelude.{nat_lt}
-use Rattle.ci_yaml.specs.Reading.{begins}
-use Rattle.ci_yaml.specs.View.{frames_view}
-use Rattle.ci_yaml_lines.specs.View.{given_view}
+use Rattle.std.proofs.Common.{◌∙◌, ap, sym, None, nat_lt}
+use Rattle.ci_yaml.specs.Prelude.{begins, frames_view, given_view}
 use Rattle.ci_yaml.proofs.Frames.{top_is}
 use Rattle.ci_yaml.proofs.members.is_awaited.Goals as goal
 

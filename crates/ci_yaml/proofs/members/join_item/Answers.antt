@@ -1,7 +1,5 @@
 use Rattle.std.proofs.Common.{sym, refl, []}
-use Rattle.ci_yaml_lines.specs.Entry.{dash}
-use Rattle.ci_yaml_lines.specs.View.{value_view}
-use Rattle.ci_yaml.specs.declared.progress.Open.TheVariants.{Items}
+use Rattle.ci_yaml.specs.Prelude.{dash, value_view, Items}
 use Rattle.ci_yaml.proofs.Steps.{entry_at, item-joins}
 use Rattle.ci_yaml.proofs.SpansFrames.{item-texts}
 use Rattle.ci_yaml.proofs.members.join_item.Goals as goal

@@ -1,8 +1,5 @@
 use Rattle.std.proofs.Common.{◌∙◌, ap, sym, refl}
-use Rattle.ci_yaml_lines.specs.Entry.{key}
-use Rattle.ci_yaml_lines.specs.View.{bytes_of, pairs_view, value_view}
-use Rattle.ci_yaml.specs.declared.progress.Open.TheVariants.{Pairs}
-use Rattle.ci_yaml.specs.Reading.{has_name}
+use Rattle.ci_yaml.specs.Prelude.{key, bytes_of, pairs_view, value_view, Pairs, has_name}
 use Rattle.ci_yaml.proofs.Steps.{entry_at, pair-joins, pair-repeats}
 use Rattle.ci_yaml.proofs.SpansFrames.{pair-texts}
 use Rattle.ci_yaml.proofs.members.join_pair.Goals as goal

@@ -1,6 +1,5 @@
 use Rattle.std.proofs.Common.{◌≡◌, ◌∙◌, ap, sym}
-use Rattle.ci_yaml_lines.specs.Tree.{sequence, mapping}
-use Rattle.ci_yaml.specs.View.{open_kind}
+use Rattle.ci_yaml.specs.Prelude.{sequence, mapping, open_kind}
 use Rattle.ci_yaml.proofs.Steps.{none-at, none-of}
 use Rattle.ci_yaml.proofs.members.pop_pairs.Goals as goal
 

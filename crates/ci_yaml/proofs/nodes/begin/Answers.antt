@@ -1,10 +1,6 @@
 use Rattle.std.proofs.Common.{◌∙◌, ap, sym, cond, length, Err, ◌∷◌}
 use Rattle.std.proofs.lemmas.Bool.{lt-ltb, le-ltb}
-use Rattle.ci_yaml_lines.specs.declared.code.Code.TheVariants.{Y10}
-use Rattle.ci_yaml.specs.declared.limits.TheConstants.{MAX_DEPTH}
-use Rattle.ci_yaml.specs.Reading.{with_given}
-use Rattle.ci_yaml.specs.View.{frames_view, frame_view}
-use Rattle.ci_yaml.specs.Spans.{frames_texts}
+use Rattle.ci_yaml.specs.Prelude.{Y10, MAX_DEPTH, with_given, frames_view, frame_view, frames_texts}
 use Rattle.ci_yaml.proofs.Frames.{frames-push}
 use Rattle.ci_yaml.proofs.Steps.{full-deep, full-room}
 use Rattle.ci_yaml.proofs.SpansFrames.{frames_texts-push}

@@ -1,6 +1,5 @@
 use Rattle.std.proofs.Common.{◌∙◌, ap}
-use Rattle.ci_yaml_lines.specs.View.{items_view}
-use Rattle.ci_yaml_lines.specs.Spans.{items_texts}
+use Rattle.ci_yaml.specs.Prelude.{items_view, items_texts}
 use Rattle.ci_yaml_lines.proofs.Views.{items-push}
 use Rattle.ci_yaml_lines.proofs.SpansTexts.{items_texts-push}
 use Rattle.ci_yaml.proofs.nodes.more_items.Goals as goal

@@ -1,15 +1,11 @@
 use Rattle.std.proofs.Common.{◌≡◌, map, Err, refl, ◌∙◌, ap, subst, arith}
-use Rattle.ci_yaml_lines.specs.declared.code.Code.TheVariants.{Y1}
-use Rattle.ci_yaml.specs.declared.fault.YamlFault.TheVariants as faults
-use Rattle.ci_yaml.specs.Document.{too_long}
+use Rattle.ci_yaml.specs.Prelude.{Y1, YamlFault, too_long, Reads, texts_of}
 use Rattle.ci_yaml.proofs.Verdicts.{text-all_faults}
 use Rattle.std.specs.Str.Lines.{lines}
 use Rattle.std.specs.Vec.{vec_items}
 use Rattle.std.proofs.lemmas.Iterator.Splits.{YieldsList-from_lines}
 use Rattle.std.proofs.lemmas.Iterator.Consumers.{map_from_collect}
-use Rattle.ci_yaml.specs.Stops.{Reads}
 use Rattle.ci_yaml.proofs.ReadTexts.{texts-are, texts-short, text-tree, text-all, text-refused, from-ok}
-use Rattle.ci_yaml.specs.Blocks.{texts_of}
 use Rattle.ci_yaml.proofs.SpansParts.{tree-written}
 use Rattle.ci_yaml.proofs.TextSpans.{tree-spans}
 use Rattle.ci_yaml.proofs.reader.read.Goals as goal
@@ -22,7 +18,7 @@ tree_of-requires c =
     record { short = texts-short c.args.text.now c.deref.result.now c.if-text-gt-MAX_FILE_BYTES.false all }
 
 pub returns-then-text-gt-MAX_FILE_BYTES-clause-refused : goal.returns-then-text-gt-MAX_FILE_BYTES-clause-refused
-returns-then-text-gt-MAX_FILE_BYTES-clause-refused c = λ at code f. text-all_faults c.args.text.now (Err (faults.Fault Y1 1)) tt (too_long c.if-text-gt-MAX_FILE_BYTES.true refl refl) at code f
+returns-then-text-gt-MAX_FILE_BYTES-clause-refused c = λ at code f. text-all_faults c.args.text.now (Err (YamlFault.Fault Y1 1)) tt (too_long c.if-text-gt-MAX_FILE_BYTES.true refl refl) at code f
 
 pub returns : goal.returns
 returns c =

@@ -1,9 +1,5 @@
 use Rattle.std.proofs.Common.{subst}
-use Rattle.ci_yaml.specs.View.{state_view}
-use Rattle.ci_yaml_lines.specs.View.{parsed_view}
-use Rattle.ci_yaml.specs.Stops.{passed_view, GivesAt}
-use Rattle.ci_yaml.specs.Spans.{state_texts}
-use Rattle.ci_yaml_lines.specs.Spans.{entries_texts}
+use Rattle.ci_yaml.specs.Prelude.{state_view, parsed_view, passed_view, GivesAt, state_texts, entries_texts}
 use Rattle.ci_yaml.proofs.ReadSteps.{content-is}
 use Rattle.ci_yaml.proofs.SpansParts.{line-texts}
 use Rattle.ci_yaml.proofs.TextSpans.{read-spans}

@@ -1,11 +1,8 @@
 use Rattle.std.proofs.Common.{[], arith}
-use Rattle.ci_yaml.specs.View.{state_view}
-use Rattle.ci_yaml.specs.Blocks.{texts_of}
-use Rattle.ci_yaml.specs.Spans.{state_texts, Lines}
+use Rattle.ci_yaml.specs.Prelude.{state_view, texts_of, state_texts, Lines, spans_of}
 use Rattle.ci_yaml.proofs.ReadSteps.{nothing-read}
 use Rattle.ci_yaml.proofs.ReadParts.{parts-read}
 use Rattle.ci_yaml.proofs.SpansParts.{all-texts}
-use Rattle.ci_yaml_lines.specs.SpansOf.{spans_of}
 use Rattle.ci_yaml.proofs.TextSpans.{all-goes}
 use Rattle.ci_yaml.proofs.reader.read_lines.Goals as goal
 

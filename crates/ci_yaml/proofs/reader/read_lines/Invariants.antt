@@ -1,10 +1,5 @@
 use Rattle.std.proofs.Common.{◌≤◌, ◌-◌, length, take}
-use Rattle.ci_yaml.specs.View.{state_view}
-use Rattle.ci_yaml.specs.Blocks.{texts_of}
-use Rattle.ci_yaml.specs.Stops.{HasRead, AreShort}
-use Rattle.ci_yaml.specs.Spans.{state_texts, Lines}
-use Rattle.ci_yaml_lines.specs.SpansOf.{spans_of}
-use Rattle.ci_yaml.specs.TextSpans.{GoOn}
+use Rattle.ci_yaml.specs.Prelude.{state_view, texts_of, HasRead, AreShort, state_texts, Lines, spans_of, GoOn}
 use Rattle.ci_yaml.proofs.reader.read_lines.Given as goal
 
 abbrev pub invariant-lines : goal.invariant-lines

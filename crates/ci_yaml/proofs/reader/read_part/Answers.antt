@@ -1,14 +1,9 @@
 use Rattle.std.proofs.Common.{◌+◌, rules}
 use Rattle.std.proofs.lemmas.List.{take_rest}
-use Rattle.ci_yaml_lines.specs.View.{bytes_of}
-use Rattle.ci_yaml.specs.View.{state_view}
-use Rattle.ci_yaml.specs.Blocks.{texts_of}
-use Rattle.ci_yaml.specs.Stops.{StopsBy}
+use Rattle.ci_yaml.specs.Prelude.{bytes_of, state_view, texts_of, StopsBy, state_texts, spans_of}
 use Rattle.ci_yaml.proofs.ReadParts.{short-at, part-more, part-fails, part-block, part-block_fails}
-use Rattle.ci_yaml.specs.Spans.{state_texts}
 use Rattle.ci_yaml.proofs.SpansParts.{part-texts, part-block_texts}
 use Rattle.ci_yaml.proofs.TextSpans.{line-goes, block-goes}
-use Rattle.ci_yaml_lines.specs.SpansOf.{spans_of}
 use Rattle.ci_yaml.proofs.reader.read_part.Goals as goal
 
 pub read_line-requires : goal.read_line-requires

@@ -1,12 +1,7 @@
 use Rattle.std.proofs.Common.{◌∙◌, ◌++◌, [], refl, ap, sym}
-use Rattle.ci_yaml_lines.specs.Spans.{given_texts}
-use Rattle.ci_yaml.specs.Spans.{frames_texts, state_texts, last_text}
+use Rattle.ci_yaml.specs.Prelude.{given_texts, frames_texts, state_texts, last_text, state_view, frames_view, with_text, spans_of, with_last}
 use Rattle.ci_yaml_lines.proofs.SpansTexts.{texts-Text}
 use Rattle.ci_yaml.proofs.TextSpans.{last-whole, last-inside}
-use Rattle.ci_yaml.specs.View.{state_view, frames_view}
-use Rattle.ci_yaml.specs.ReadLines.{with_text}
-use Rattle.ci_yaml_lines.specs.SpansOf.{spans_of}
-use Rattle.ci_yaml.specs.TextSpans.{with_last}
 use Rattle.ci_yaml.proofs.reader.with_text.Goals as goal
 
 pub returns-in-Whole-clause-spans : goal.returns-in-Whole-clause-spans

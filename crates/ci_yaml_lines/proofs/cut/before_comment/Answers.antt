@@ -1,6 +1,6 @@
 use Rattle.std.proofs.Common.{◌∙◌, ap, sym, subst}
 use Rattle.std.specs.Str.{IsCharBoundary}
-use Rattle.ci_yaml_lines.specs.Scalar.{comment_len}
+use Rattle.ci_yaml_lines.specs.Prelude.{comment_len}
 use Rattle.ci_yaml_lines.proofs.Cuts.{comment-boundary}
 use Rattle.ci_yaml_lines.proofs.cut.before_comment.Goals as goal
 

@@ -1,6 +1,6 @@
 use Rattle.std.proofs.Common.{◌∙◌, ap, sym, subst}
 use Rattle.std.specs.Str.{IsCharBoundary}
-use Rattle.ci_yaml_lines.specs.Scalar.{blanks}
+use Rattle.ci_yaml_lines.specs.Prelude.{blanks}
 use Rattle.ci_yaml_lines.proofs.Cuts.{blanks-boundary}
 use Rattle.ci_yaml_lines.proofs.cut.drop_blanks.Goals as goal
 

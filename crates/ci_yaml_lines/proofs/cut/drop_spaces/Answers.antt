@@ -1,6 +1,6 @@
 use Rattle.std.proofs.Common.{◌∙◌, ap, sym, subst}
 use Rattle.std.specs.Str.{IsCharBoundary}
-use Rattle.ci_yaml_lines.specs.Line.{spaces}
+use Rattle.ci_yaml_lines.specs.Prelude.{spaces}
 use Rattle.ci_yaml_lines.proofs.Cuts.{spaces-boundary}
 use Rattle.ci_yaml_lines.proofs.cut.drop_spaces.Goals as goal
 

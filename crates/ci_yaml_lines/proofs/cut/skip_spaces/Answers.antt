@@ -1,5 +1,5 @@
 use Rattle.std.proofs.Common.{◌≡◌, ◌∙◌, ap, arith}
-use Rattle.ci_yaml_lines.specs.Line.{spaces}
+use Rattle.ci_yaml_lines.specs.Prelude.{spaces}
 use Rattle.ci_yaml_lines.proofs.Cuts.{spaces-inside}
 use Rattle.ci_yaml_lines.proofs.cut.skip_spaces.Goals as goal
 

@@ -1,6 +1,6 @@
 use Rattle.std.proofs.Common.{◌∙◌, ap, sym, subst}
 use Rattle.std.specs.Str.{IsCharBoundary}
-use Rattle.ci_yaml_lines.specs.Scalar.{trimmed_len}
+use Rattle.ci_yaml_lines.specs.Prelude.{trimmed_len}
 use Rattle.ci_yaml_lines.proofs.Cuts.{trimmed-boundary}
 use Rattle.ci_yaml_lines.proofs.cut.trim_end.Goals as goal
 

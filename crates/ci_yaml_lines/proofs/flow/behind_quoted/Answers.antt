@@ -1,12 +1,7 @@
 use Rattle.std.proofs.Common.{◌∙◌, refl, ap, not, ◌++◌}
-use Rattle.ci_yaml_lines.specs.declared.code.Code.TheVariants.{Y7, Y9, Y11}
-use Rattle.ci_yaml_lines.specs.Scalar.{when, is_nil, drop_blanks, has_tab_after}
-use Rattle.ci_yaml_lines.specs.Least.{least}
+use Rattle.ci_yaml_lines.specs.Prelude.{Y7, Y9, Y11, when, is_nil, drop_blanks, has_tab_after, least, cut_place, Value, bytes_of, end_view}
 use Rattle.ci_yaml_lines.specs.Line as line
-use Rattle.ci_yaml_lines.specs.Line.{cut_place}
-use Rattle.ci_yaml_lines.specs.Tree.{Value}
 use Rattle.ci_yaml_lines.proofs.Views.{view-Text}
-use Rattle.ci_yaml_lines.specs.View.{bytes_of, end_view}
 use Rattle.ci_yaml_lines.proofs.Leasts.{least_two}
 use Rattle.ci_yaml_lines.proofs.Parsed.{text_place, value_place}
 use Rattle.ci_yaml_lines.specs.declared.tree.Tree.{Text as TextTree}

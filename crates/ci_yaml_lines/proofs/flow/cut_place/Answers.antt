@@ -1,6 +1,6 @@
 use Rattle.std.proofs.Common.{◌∙◌, ap, sym, subst}
 use Rattle.std.specs.Str.{IsCharBoundary}
-use Rattle.ci_yaml_lines.specs.Line.{place_len}
+use Rattle.ci_yaml_lines.specs.Prelude.{place_len}
 use Rattle.ci_yaml_lines.proofs.Cuts.{place-boundary}
 use Rattle.ci_yaml_lines.proofs.flow.cut_place.Goals as goal
 

@@ -1,8 +1,5 @@
 use Rattle.std.proofs.Common.{◌≡◌, ◌∙◌, ◌∷◌, [], ◌++◌, ap, sym, cond, false}
-use Rattle.ci_yaml_lines.specs.declared.code.Code.TheVariants.{Y8, Y9}
-use Rattle.ci_yaml_lines.specs.Scalar.{when, is_nil, plain_codes}
-use Rattle.ci_yaml_lines.specs.Least.{least}
-use Rattle.ci_yaml_lines.specs.Line.{has_inner}
+use Rattle.ci_yaml_lines.specs.Prelude.{Y8, Y9, when, is_nil, plain_codes, least, has_inner}
 use Rattle.ci_yaml_lines.proofs.Leasts.{least_two}
 use Rattle.ci_yaml_lines.proofs.flow.place_code.Goals as goal
 

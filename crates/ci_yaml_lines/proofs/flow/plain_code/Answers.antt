@@ -1,8 +1,5 @@
-use Rattle.std.proofs.Common.{◌∙◌, ap}
-use Rattle.std.specs.Prelude.{◌||◌}
-use Rattle.ci_yaml_lines.specs.declared.code.Code.TheVariants.{Y9, Y11}
-use Rattle.ci_yaml_lines.specs.Scalar.{when, is_forbidden, has_tab_after, has_colon}
-use Rattle.ci_yaml_lines.specs.Least.{least}
+use Rattle.std.proofs.Common.{◌∙◌, ap, ◌||◌}
+use Rattle.ci_yaml_lines.specs.Prelude.{Y9, Y11, when, is_forbidden, has_tab_after, has_colon, least}
 use Rattle.ci_yaml_lines.proofs.Leasts.{least_two}
 use Rattle.ci_yaml_lines.proofs.flow.plain_code.Goals as goal
 

@@ -2,8 +2,7 @@ use Rattle.ci_yaml_lines.proofs.SpansFlow.{stand-empty, list-within}
 use Rattle.ci_yaml_lines.proofs.SpansOf.{exact-empty, exact-list}
 use Rattle.std.proofs.Common.{◌≡◌, ◌∙◌, length}
 use Rattle.ci_yaml_lines.proofs.SpansGiven.{if-ok}
-use Rattle.ci_yaml_lines.specs.Spans.{items_texts}
-use Rattle.ci_yaml_lines.specs.SpansOf.{spans_of, places_spans, list_spans}
+use Rattle.ci_yaml_lines.specs.Prelude.{items_texts, spans_of, places_spans, list_spans}
 use Rattle.ci_yaml_lines.proofs.flow.read_list.Goals as goal
 
 pub returns-then-head_is-clause-spans : goal.returns-then-head_is-clause-spans

@@ -1,21 +1,11 @@
-use Rattle.std.proofs.Common.{◌∷◌, [], Option, subst, false}
-use Rattle.std.specs.Prelude.{IfSome}
+use Rattle.std.proofs.Common.{◌∷◌, [], Option, subst, false, IfSome, ◌≡◌, ◌∙◌, true, Some, None, sym, ap, option_map}
 use Rattle.ci_yaml_lines.specs.declared.quoted.Quoted.{Quoted}
-use Rattle.ci_yaml_lines.specs.Spans.{Stand, texts_in, span_before}
-use Rattle.ci_yaml_lines.specs.SpansFlow.{behind_end}
+use Rattle.ci_yaml_lines.specs.Prelude.{Stand, texts_in, span_before, behind_end, Y6, Value, is_quote, quoted, drop_blanks, missing, quoted_view, LeastPlace, scalar_spans}
+use Rattle.ci_yaml_lines.specs.Prelude.{value_view}
 use Rattle.ci_yaml_lines.proofs.SpansFlow.{stand-behind-blanks, stand-null}
-use Rattle.std.proofs.Common.{◌≡◌, ◌∙◌, true, Some, None, sym, ap}
-use Rattle.std.specs.Prelude.{option_map}
-use Rattle.ci_yaml_lines.specs.declared.code.Code.TheVariants.{Y6}
-use Rattle.ci_yaml_lines.specs.Tree.{Value}
-use Rattle.ci_yaml_lines.specs.Scalar.{is_quote, quoted, drop_blanks}
-use Rattle.ci_yaml_lines.specs.Line.{missing}
-use Rattle.ci_yaml_lines.specs.View.{quoted_view, LeastPlace}
 use Rattle.ci_yaml_lines.proofs.Views.{view-Null}
 use Rattle.ci_yaml_lines.proofs.Parsed.{value_place, place-quoted, place-plain}
 use Rattle.ci_yaml_lines.proofs.SpansOf.{exact-quoted-place, exact-no-place, unquoted}
-use Rattle.ci_yaml_lines.specs.SpansOf.{scalar_spans}
-use Rattle.ci_yaml_lines.specs.TreeView.{value_view}
 use Rattle.ci_yaml_lines.proofs.flow.read_place.Goals as goal
 
 pub returns-in-Some-clause-spans : goal.returns-in-Some-clause-spans

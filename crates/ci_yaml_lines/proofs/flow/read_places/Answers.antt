@@ -1,10 +1,7 @@
 use Rattle.std.proofs.Common.{◌∙◌, ap, rules, [], ◌-◌, ◌+◌, arith, refl}
-use Rattle.ci_yaml_lines.specs.Spans.{items_texts}
-use Rattle.ci_yaml_lines.specs.SpansOf.{spans_of, places_spans}
+use Rattle.ci_yaml_lines.specs.Prelude.{items_texts, spans_of, places_spans, items_view, end_view, behind_end}
 use Rattle.ci_yaml_lines.proofs.SpansOf.{exact-start, exact-turn, exact-end, exact-fuel}
 use Rattle.ci_yaml_lines.specs.Line as line
-use Rattle.ci_yaml_lines.specs.View.{items_view, end_view}
-use Rattle.ci_yaml_lines.specs.SpansFlow.{behind_end}
 use Rattle.ci_yaml_lines.proofs.Parsed.{place-next, bracket-end, missing-end, missing-is, fuel-end}
 use Rattle.ci_yaml_lines.proofs.SpansFlow.{stand-more, stand-nothing, stand-all-of}
 use Rattle.ci_yaml_lines.proofs.flow.read_places.Goals as goal

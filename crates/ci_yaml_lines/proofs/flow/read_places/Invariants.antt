@@ -1,10 +1,7 @@
 use Rattle.std.proofs.Common.{◌≡◌, ◌-◌, ◌++◌}
 use denote.Text.{Utf8}
 use denote.Shadow.{shadow}
-use Rattle.ci_yaml_lines.specs.Line.{places}
-use Rattle.ci_yaml_lines.specs.Spans.{Stand, items_texts}
-use Rattle.ci_yaml_lines.specs.SpansOf.{spans_of, places_spans}
-use Rattle.ci_yaml_lines.specs.View.{items_view, with_places, least_listed}
+use Rattle.ci_yaml_lines.specs.Prelude.{places, Stand, items_texts, spans_of, places_spans, items_view, with_places, least_listed}
 use Rattle.ci_yaml_lines.proofs.flow.read_places.Given as goal
 
 abbrev pub invariant-places : goal.invariant-places

@@ -1,12 +1,9 @@
-use Rattle.std.proofs.Common.{◌∙◌, ap}
-use Rattle.ci_yaml_lines.specs.Spans.{entries_texts}
+use Rattle.std.proofs.Common.{◌∙◌, ap, List, [], ◌∷◌, ◌++◌, map, Option, option_map}
+use Rattle.ci_yaml_lines.specs.Prelude.{entries_texts, chomp_view, entry_view}
 use Rattle.ci_yaml_lines.proofs.SpansParsed.{entries-texts-push}
-use Rattle.std.proofs.Common.{List, [], ◌∷◌, ◌++◌, map, Option}
-use Rattle.std.specs.Prelude.{option_map}
 use Rattle.ci_yaml_lines.specs.Line as line
 use Rattle.ci_yaml_lines.specs.Entry as entry
 use Rattle.ci_yaml_lines.specs.declared.entry.Entry.{Entry}
-use Rattle.ci_yaml_lines.specs.View.{chomp_view, entry_view}
 use Rattle.ci_yaml_lines.proofs.Parsed.{parsed, entries-push}
 use Rattle.ci_yaml_lines.proofs.line.entry_of.Goals as goal
 

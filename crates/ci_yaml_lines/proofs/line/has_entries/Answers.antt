@@ -1,6 +1,5 @@
-use Rattle.std.proofs.Common.{◌≡◌, ◌∙◌, ap, sym, false}
-use Rattle.std.specs.Prelude.{◌||◌, is_some}
-use Rattle.ci_yaml_lines.specs.Line.{is_dash, keyed}
+use Rattle.std.proofs.Common.{◌≡◌, ◌∙◌, ap, sym, false, ◌||◌, is_some}
+use Rattle.ci_yaml_lines.specs.Prelude.{is_dash, keyed}
 use Rattle.ci_yaml_lines.proofs.Parsed.{some-same}
 use Rattle.ci_yaml_lines.proofs.line.has_entries.Goals as goal
 

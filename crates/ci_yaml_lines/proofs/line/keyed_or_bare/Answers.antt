@@ -1,17 +1,11 @@
-use Rattle.std.proofs.Common.{◌≡◌, ◌∙◌, ap, sym, subst, map, [], ◌∷◌, ◌++◌, Option}
-use Rattle.std.specs.Prelude.{IfOk, IfSome, option_map}
-use Rattle.ci_yaml_lines.specs.Line.{keyed, written}
-use Rattle.ci_yaml_lines.specs.View.{entry_view, keyed_view, written_view, LeastParsed, parsed_view, with_entries}
+use Rattle.std.proofs.Common.{◌≡◌, ◌∙◌, ap, sym, subst, map, [], ◌∷◌, ◌++◌, Option, IfOk, IfSome, option_map}
+use Rattle.ci_yaml_lines.specs.Prelude.{keyed, written, entry_view, keyed_view, written_view, LeastParsed, parsed_view, with_entries, Stand, given_texts, entries_texts, GoOn}
+use Rattle.ci_yaml_lines.specs.Prelude.{spans_of, scalar_span, given_spans, keyed_spans, drop_blanks, quoted, bytes_of}
 use Rattle.ci_yaml_lines.proofs.Parsed.{key-parsed, bare-parsed}
 use Rattle.ci_yaml_lines.specs.declared.line.Keyed.{Keyed}
-use Rattle.ci_yaml_lines.specs.Spans.{Stand, given_texts, entries_texts}
-use Rattle.ci_yaml_lines.specs.SpansParsed.{GoOn}
 use Rattle.ci_yaml_lines.proofs.SpansGiven.{if-ok}
 use Rattle.ci_yaml_lines.proofs.SpansParsed.{keyed-goes, value-goes}
 use Rattle.ci_yaml_lines.proofs.SpansOf.{exact-keyed, exact-bare, exact-more}
-use Rattle.ci_yaml_lines.specs.SpansOf.{spans_of, scalar_span, given_spans, keyed_spans}
-use Rattle.ci_yaml_lines.specs.Scalar.{drop_blanks, quoted}
-use Rattle.ci_yaml_lines.specs.TreeView.{bytes_of}
 use Rattle.ci_yaml_lines.proofs.line.keyed_or_bare.Goals as goal
 
 pub returns-in-Some-clause-value : goal.returns-in-Some-clause-value

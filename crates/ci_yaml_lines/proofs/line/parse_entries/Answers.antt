@@ -1,19 +1,12 @@
-use Rattle.std.proofs.Common.{◌≡◌, ◌∙◌, ap, sym, subst, map, length, rules, arith, true, false, List, [], ◌++◌, ◌+◌, ◌≤◌, None, ◌-◌}
-use Rattle.std.specs.Prelude.{IfOk}
-use Rattle.ci_values.specs.declared.limits.TheConstants.{MAX_FILE_BYTES}
-use Rattle.ci_yaml_lines.specs.declared.entry.Head.TheVariants.{Dash}
-use Rattle.ci_yaml_lines.specs.Line.{is_dash, keyed}
-use Rattle.ci_yaml_lines.specs.View.{entry_view, written_view, item_view, LeastParsed, parsed_view, ColumnsFit, given_view}
+use Rattle.std.proofs.Common.{◌≡◌, ◌∙◌, ap, sym, subst, map, length, rules, arith, true, false, List, [], ◌++◌, ◌+◌, ◌≤◌, None, ◌-◌, IfOk}
+use Rattle.ci_yaml_lines.specs.Prelude.{MAX_FILE_BYTES, Dash, is_dash, keyed, entry_view, written_view, item_view, LeastParsed, parsed_view, ColumnsFit, given_view, Stand}
+use Rattle.ci_yaml_lines.specs.Prelude.{given_texts, entries_texts, GoOn, ItemStands, ItemHasSpans, spans_of, given_spans, keyed_spans, entries_spans, drop_blanks}
 use Rattle.ci_yaml_lines.proofs.Parsed.{stop-turn, value-turn, inner-turn, end-turn, entries-push, start-turn, dash-longer, added}
 use Rattle.ci_yaml_lines.specs.declared.tree.Text.{Text}
-use Rattle.ci_yaml_lines.specs.Spans.{Stand, given_texts, entries_texts}
-use Rattle.ci_yaml_lines.specs.SpansParsed.{GoOn, ItemStands, ItemHasSpans}
 use Rattle.ci_yaml_lines.proofs.SpansStand.{stand-all}
 use Rattle.ci_yaml_lines.proofs.SpansGiven.{if-ok}
 use Rattle.ci_yaml_lines.proofs.SpansParsed.{no-entries, dash-item, dash-inner}
 use Rattle.ci_yaml_lines.proofs.SpansOf.{exact-first, exact-stop, exact-value, exact-inner, exact-dash, exact-last, exact-more}
-use Rattle.ci_yaml_lines.specs.SpansOf.{spans_of, given_spans, keyed_spans, entries_spans}
-use Rattle.ci_yaml_lines.specs.Scalar.{drop_blanks}
 use Rattle.ci_yaml_lines.proofs.line.parse_entries.Goals as goal
 
 pub dashes-init : goal.dashes-init

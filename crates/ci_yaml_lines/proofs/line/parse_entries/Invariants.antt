@@ -1,11 +1,7 @@
 use Rattle.std.proofs.Common.{◌≡◌, ◌-◌, ◌+◌, ◌≤◌, ◌++◌, length, map}
 use denote.Text.{Utf8}
 use denote.Shadow.{shadow}
-use Rattle.ci_values.specs.declared.limits.TheConstants.{MAX_FILE_BYTES}
-use Rattle.ci_yaml_lines.specs.Line.{parse_entries}
-use Rattle.ci_yaml_lines.specs.View.{entry_view, with_entries, least_parsed}
-use Rattle.ci_yaml_lines.specs.Spans.{Stand, entries_texts}
-use Rattle.ci_yaml_lines.specs.SpansOf.{spans_of, entries_spans}
+use Rattle.ci_yaml_lines.specs.Prelude.{MAX_FILE_BYTES, parse_entries, entry_view, with_entries, least_parsed, Stand, entries_texts, spans_of, entries_spans}
 use Rattle.ci_yaml_lines.proofs.line.parse_entries.Given as goal
 
 abbrev pub invariant-dashes : goal.invariant-dashes

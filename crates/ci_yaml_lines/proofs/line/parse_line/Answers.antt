@@ -1,14 +1,8 @@
 use Rattle.std.proofs.Common.{◌≡◌, ◌∙◌, ◌+◌, ap, sym, arith, length, false, drop, ℕ, List}
 use Rattle.std.proofs.lemmas.List.Sums.{prefix_len-le-length}
-use Rattle.ci_yaml_lines.specs.declared.code.Code.TheVariants.{Y9}
-use Rattle.ci_yaml_lines.specs.Scalar.{trim_end, when}
-use Rattle.ci_yaml_lines.specs.Least.{least}
-use Rattle.ci_yaml_lines.specs.Line.{spaces, is_space, is_skipped, parse_content}
-use Rattle.ci_yaml_lines.specs.View.{parsed_view, least_parsed}
+use Rattle.ci_yaml_lines.specs.Prelude.{Y9, trim_end, when, least, spaces, is_space, is_skipped, parse_content, parsed_view, least_parsed, entries_texts, SourceLine}
 use Rattle.ci_yaml_lines.proofs.Parsed.{line-fits, line-parsed}
-use Rattle.ci_yaml_lines.specs.Spans.{entries_texts}
 use Rattle.ci_yaml_lines.proofs.SpansParsed.{no-entries, same-entries, line-stands}
-use Rattle.ci_yaml_lines.specs.declared.cut.SourceLine.{SourceLine}
 use Rattle.ci_yaml_lines.proofs.SpansStand.{stand-all}
 use Rattle.ci_yaml_lines.proofs.SpansOf.{exact-skipped, exact-line}
 use Rattle.ci_yaml_lines.proofs.line.parse_line.Goals as goal

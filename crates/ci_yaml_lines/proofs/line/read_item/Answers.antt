@@ -1,10 +1,9 @@
 use Rattle.std.proofs.Common.{[]}
-use Rattle.ci_yaml_lines.specs.Line.{spaces}
+use Rattle.std.proofs.Common.{◌≡◌, ◌∙◌, ℕ, ◌+◌, true, false, drop, refl, sym, ap}
+use Rattle.ci_yaml_lines.specs.Prelude.{spaces, only_comment, head_is, least_item}
 use Rattle.ci_yaml_lines.proofs.SpansStand.{stand-none}
 use Rattle.ci_yaml_lines.proofs.SpansGiven.{stand_drop, stand-nothing}
-use Rattle.std.proofs.Common.{◌≡◌, ◌∙◌, ℕ, ◌+◌, true, false, drop, refl, sym, ap}
-use Rattle.ci_yaml_lines.specs.Scalar.{only_comment, head_is}
-use Rattle.ci_yaml_lines.specs.View.{inner, value, least_item}
+use Rattle.ci_yaml_lines.specs.View.{inner, value}
 use Rattle.ci_yaml_lines.proofs.Parsed.{item-by, item-more}
 use Rattle.ci_yaml_lines.proofs.SpansOf.{exact-item}
 use Rattle.ci_yaml_lines.proofs.line.read_item.Goals as goal

@@ -1,7 +1,7 @@
 use Rattle.ci_yaml_lines.proofs.SpansParsed.{stand-quoted-key}
 use Rattle.ci_yaml_lines.proofs.SpansOf.{exact-quoted-key, exact-plain-key, unquoted}
 use Rattle.std.proofs.Common.{◌≡◌, ◌∙◌, ap, sym, false}
-use Rattle.ci_yaml_lines.specs.Scalar.{is_quote}
+use Rattle.ci_yaml_lines.specs.Prelude.{is_quote}
 use Rattle.ci_yaml_lines.proofs.line.read_key.Goals as goal
 
 pub returns-in_ok-quoted-clause-spans : goal.returns-in_ok-quoted-clause-spans

@@ -1,6 +1,6 @@
 use Rattle.std.proofs.Common.{◌∙◌, ap, sym, subst}
 use Rattle.std.specs.Str.{IsCharBoundary}
-use Rattle.ci_yaml_lines.specs.Line.{key_len}
+use Rattle.ci_yaml_lines.specs.Prelude.{key_len}
 use Rattle.ci_yaml_lines.proofs.Cuts.{key-boundary}
 use Rattle.ci_yaml_lines.proofs.line.split_colon.Goals as goal
 

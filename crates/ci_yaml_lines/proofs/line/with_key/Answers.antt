@@ -1,12 +1,8 @@
 use Rattle.std.proofs.Common.{◌≡◌, ◌∷◌, [], ◌++◌}
-use Rattle.ci_yaml_lines.specs.Spans.{given_texts, entries_texts}
-use Rattle.ci_yaml_lines.specs.SpansParsed.{GoOn}
+use Rattle.ci_yaml_lines.specs.Prelude.{given_texts, entries_texts, GoOn, spans_of, given_spans, written, drop_blanks}
 use Rattle.ci_yaml_lines.proofs.SpansGiven.{if-ok}
 use Rattle.ci_yaml_lines.proofs.SpansParsed.{key-goes}
 use Rattle.ci_yaml_lines.proofs.SpansOf.{exact-key}
-use Rattle.ci_yaml_lines.specs.SpansOf.{spans_of, given_spans}
-use Rattle.ci_yaml_lines.specs.Line.{written}
-use Rattle.ci_yaml_lines.specs.Scalar.{drop_blanks}
 use Rattle.ci_yaml_lines.proofs.line.with_key.Goals as goal
 
 pub returns-clause-spans : goal.returns-clause-spans

@@ -1,6 +1,6 @@
 use Rattle.std.proofs.Common.{◌≡◌, ◌∙◌, ap, sym, rules, string_bytes, ◌∷◌, ◌||◌, List, ℕ, Option, cond}
-use Rattle.ci_yaml_lines.specs.Scalar.{Quoted, double, with_words}
-use Rattle.ci_yaml_lines.specs.View.{with_wrong}
+use Rattle.ci_yaml_lines.specs.Scalar.{Quoted}
+use Rattle.ci_yaml_lines.specs.Prelude.{double, with_words, with_wrong}
 use Rattle.ci_yaml_lines.proofs.Quotes.{wrong-not, turn-wrong, turn-front, turn-closed}
 use Rattle.ci_yaml_lines.proofs.quoted.add_escapes.Goals as goal
 

@@ -1,8 +1,7 @@
 use Rattle.std.proofs.Common.{◌≡◌, ◌∷◌, length, string_bytes}
 use denote.Text.{Utf8}
 use denote.Shadow.{shadow}
-use Rattle.ci_yaml_lines.specs.Scalar.{double, with_words}
-use Rattle.ci_yaml_lines.specs.View.{with_wrong}
+use Rattle.ci_yaml_lines.specs.Prelude.{double, with_words, with_wrong}
 use Rattle.ci_yaml_lines.proofs.quoted.add_escapes.Given as goal
 
 abbrev pub invariant-escapes : goal.invariant-escapes

@@ -1,5 +1,5 @@
 use Rattle.std.proofs.Common.{◌∙◌, ap, sym, rules, string_bytes}
-use Rattle.ci_yaml_lines.specs.Scalar.{head_is}
+use Rattle.ci_yaml_lines.specs.Prelude.{head_is}
 use Rattle.ci_yaml_lines.proofs.Quotes.{pair-turn, pair-open, after-quote, shorter-tail}
 use Rattle.ci_yaml_lines.proofs.quoted.add_pairs.Goals as goal
 

@@ -1,7 +1,7 @@
 use Rattle.std.proofs.Common.{◌≡◌, ◌∷◌, length, string_bytes}
 use denote.Text.{Utf8}
 use denote.Shadow.{shadow}
-use Rattle.ci_yaml_lines.specs.Scalar.{single, with_words}
+use Rattle.ci_yaml_lines.specs.Prelude.{single, with_words}
 use Rattle.ci_yaml_lines.proofs.quoted.add_pairs.Given as goal
 
 abbrev pub invariant-pairs : goal.invariant-pairs

@@ -1,5 +1,5 @@
 use Rattle.std.proofs.Common.{ℕ, List, ◌∷◌, ◌++◌, ◌∙◌, sym, ap, cond}
-use Rattle.ci_yaml_lines.specs.Scalar.{double, with_words}
+use Rattle.ci_yaml_lines.specs.Prelude.{double, with_words}
 use Rattle.ci_yaml_lines.proofs.Quotes.{double-closed}
 use Rattle.ci_yaml_lines.proofs.Lent.{lent-some, escaped-ok}
 use Rattle.ci_yaml_lines.proofs.quoted.double.Goals as goal

@@ -1,7 +1,5 @@
-use Rattle.std.proofs.Common.{◌≡◌, ◌∙◌, ap, sym, Some}
-use Rattle.std.specs.Prelude.{option_map}
-use Rattle.ci_yaml_lines.specs.Scalar.{quoted}
-use Rattle.ci_yaml_lines.specs.View.{quoted_words_view}
+use Rattle.std.proofs.Common.{◌≡◌, ◌∙◌, ap, sym, Some, option_map}
+use Rattle.ci_yaml_lines.specs.Prelude.{quoted, quoted_words_view}
 use Rattle.ci_yaml_lines.proofs.Lent.{lent-of}
 use Rattle.ci_yaml_lines.proofs.SpansQuoted.{stand-quoted}
 use Rattle.ci_yaml_lines.proofs.quoted.read_quoted.Goals as goal

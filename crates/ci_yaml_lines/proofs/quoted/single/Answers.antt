@@ -1,5 +1,5 @@
 use Rattle.std.proofs.Common.{◌∙◌, sym, ap}
-use Rattle.ci_yaml_lines.specs.Scalar.{head_is}
+use Rattle.ci_yaml_lines.specs.Prelude.{head_is}
 use Rattle.ci_yaml_lines.proofs.Quotes.{after-quote}
 use Rattle.ci_yaml_lines.proofs.Lent.{lent-some, doubled-ok}
 use Rattle.ci_yaml_lines.proofs.quoted.single.Goals as goal

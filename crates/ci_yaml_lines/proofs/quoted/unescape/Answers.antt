@@ -1,5 +1,5 @@
 use Rattle.std.proofs.Common.{◌≡◌, Some, None, string_bytes}
-use Rattle.ci_yaml_lines.specs.Scalar.{escape_of}
+use Rattle.ci_yaml_lines.specs.Prelude.{escape_of}
 use Rattle.ci_yaml_lines.proofs.Quotes.{unescaped, misused}
 use Rattle.ci_yaml_lines.proofs.quoted.unescape.Goals as goal
 

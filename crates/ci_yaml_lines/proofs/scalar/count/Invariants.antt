@@ -1,6 +1,5 @@
 use Rattle.std.proofs.Common.{◌≡◌, ◌≤◌, drop}
-use Rattle.ci_values.specs.declared.limits.TheConstants.{MAX_NUMBER}
-use Rattle.ci_yaml_lines.specs.Scalar.{count_of}
+use Rattle.ci_yaml_lines.specs.Prelude.{MAX_NUMBER, count_of}
 use Rattle.ci_yaml_lines.proofs.Counts.{count_rest}
 use Rattle.ci_yaml_lines.proofs.scalar.count.Given as goal
 

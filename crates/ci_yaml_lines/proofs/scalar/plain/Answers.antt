@@ -1,8 +1,6 @@
-use Rattle.std.proofs.Common.{◌≡◌, ◌∙◌, ℕ, Bool, true, false, cond, List, pos, ap, sym, refl}
-use Rattle.std.specs.Prelude.{◌||◌, codes}
+use Rattle.std.proofs.Common.{◌≡◌, ◌∙◌, ℕ, Bool, true, false, cond, List, pos, ap, sym, refl, ◌||◌, codes}
 use Rattle.std.specs.Str.{bytes_eq}
-use Rattle.ci_yaml_lines.specs.Tree.{Value, null, boolean, number}
-use Rattle.ci_yaml_lines.specs.Scalar.{number_or_text, plain_value}
+use Rattle.ci_yaml_lines.specs.Prelude.{Value, null, boolean, number, number_or_text, plain_value}
 use Rattle.ci_yaml_lines.proofs.Views.{view-Null, view-Bool, view-Int}
 use Rattle.ci_yaml_lines.proofs.scalar.plain.Goals as goal
 

@@ -1,5 +1,5 @@
 use Rattle.std.proofs.Common.{◌≡◌, ◌+◌, drop}
-use Rattle.ci_yaml_lines.specs.Scalar.{comment_len}
+use Rattle.ci_yaml_lines.specs.Prelude.{comment_len}
 use Rattle.ci_yaml_lines.proofs.scan.comment_len.Given as goal
 
 abbrev pub invariant-loop-i : goal.invariant-loop-i

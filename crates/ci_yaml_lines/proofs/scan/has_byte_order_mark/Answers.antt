@@ -1,7 +1,5 @@
-use Rattle.std.proofs.Common.{ℕ, Bool, List, refl, sym, ◌∙◌}
-use Rattle.std.specs.Prelude.{◌==◌, ◌&&◌}
-use Rattle.ci_yaml_lines.specs.Scalar.{head_is, tail_of}
-use Rattle.ci_yaml_lines.specs.Line.{has_byte_order_mark}
+use Rattle.std.proofs.Common.{ℕ, Bool, List, refl, sym, ◌∙◌, ◌==◌, ◌&&◌}
+use Rattle.ci_yaml_lines.specs.Prelude.{head_is, tail_of, has_byte_order_mark}
 use Rattle.ci_yaml_lines.proofs.Scans.{search-found, search-on, search-end}
 use Rattle.ci_yaml_lines.proofs.scan.has_byte_order_mark.Goals as goal
 

@@ -1,5 +1,5 @@
 use Rattle.std.proofs.Common.{◌≡◌, length}
-use Rattle.ci_yaml_lines.specs.Line.{has_byte_order_mark}
+use Rattle.ci_yaml_lines.specs.Prelude.{has_byte_order_mark}
 use Rattle.ci_yaml_lines.proofs.scan.has_byte_order_mark.Given as goal
 
 abbrev pub invariant-scan : goal.invariant-scan

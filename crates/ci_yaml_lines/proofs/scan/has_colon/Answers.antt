@@ -1,6 +1,5 @@
-use Rattle.std.proofs.Common.{ℕ, Bool, List, refl, sym, ◌∙◌}
-use Rattle.std.specs.Prelude.{◌==◌, ◌&&◌}
-use Rattle.ci_yaml_lines.specs.Scalar.{has_colon, space_next}
+use Rattle.std.proofs.Common.{ℕ, Bool, List, refl, sym, ◌∙◌, ◌==◌, ◌&&◌}
+use Rattle.ci_yaml_lines.specs.Prelude.{has_colon, space_next}
 use Rattle.ci_yaml_lines.proofs.Scans.{search-found, search-on, search-end}
 use Rattle.ci_yaml_lines.proofs.scan.has_colon.Goals as goal
 

@@ -1,5 +1,5 @@
 use Rattle.std.proofs.Common.{◌≡◌, length}
-use Rattle.ci_yaml_lines.specs.Scalar.{has_colon}
+use Rattle.ci_yaml_lines.specs.Prelude.{has_colon}
 use Rattle.ci_yaml_lines.proofs.scan.has_colon.Given as goal
 
 abbrev pub invariant-scan : goal.invariant-scan

@@ -1,7 +1,5 @@
-use Rattle.std.proofs.Common.{ℕ, Bool, List, refl, sym, ◌∙◌}
-use Rattle.std.specs.Prelude.{◌==◌, ◌&&◌, ◌||◌}
-use Rattle.ci_yaml_lines.specs.Scalar.{head_is}
-use Rattle.ci_yaml_lines.specs.Line.{has_inner}
+use Rattle.std.proofs.Common.{ℕ, Bool, List, refl, sym, ◌∙◌, ◌==◌, ◌&&◌, ◌||◌}
+use Rattle.ci_yaml_lines.specs.Prelude.{head_is, has_inner}
 use Rattle.ci_yaml_lines.proofs.Scans.{search-found, search-on, search-end}
 use Rattle.ci_yaml_lines.proofs.scan.has_inner.Goals as goal
 

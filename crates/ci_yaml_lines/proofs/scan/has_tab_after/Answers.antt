@@ -1,6 +1,5 @@
-use Rattle.std.proofs.Common.{ℕ, Bool, List, refl, sym, ◌∙◌}
-use Rattle.std.specs.Prelude.{◌==◌, ◌&&◌, ◌||◌}
-use Rattle.ci_yaml_lines.specs.Scalar.{has_tab_after, head_is}
+use Rattle.std.proofs.Common.{ℕ, Bool, List, refl, sym, ◌∙◌, ◌==◌, ◌&&◌, ◌||◌}
+use Rattle.ci_yaml_lines.specs.Prelude.{has_tab_after, head_is}
 use Rattle.ci_yaml_lines.proofs.Scans.{search-found, search-on, search-end}
 use Rattle.ci_yaml_lines.proofs.scan.has_tab_after.Goals as goal
 

@@ -1,5 +1,5 @@
 use Rattle.std.proofs.Common.{◌≡◌, length}
-use Rattle.ci_yaml_lines.specs.Scalar.{has_tab_after}
+use Rattle.ci_yaml_lines.specs.Prelude.{has_tab_after}
 use Rattle.ci_yaml_lines.proofs.scan.has_tab_after.Given as goal
 
 abbrev pub invariant-scan : goal.invariant-scan

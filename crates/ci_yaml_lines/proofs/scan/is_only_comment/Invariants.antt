@@ -1,5 +1,5 @@
 use Rattle.std.proofs.Common.{◌≡◌, length}
-use Rattle.ci_yaml_lines.specs.Scalar.{only_comment}
+use Rattle.ci_yaml_lines.specs.Prelude.{only_comment}
 use Rattle.ci_yaml_lines.proofs.scan.is_only_comment.Given as goal
 
 abbrev pub invariant-scan : goal.invariant-scan

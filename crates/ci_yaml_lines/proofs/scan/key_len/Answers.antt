@@ -1,6 +1,6 @@
 use Rattle.std.proofs.Common.{sym, ◌∙◌, length}
 use Rattle.ci_yaml_lines.proofs.Scans.{key-found, key-on, key-within, key-end}
-use Rattle.ci_yaml_lines.specs.Line.{key_len}
+use Rattle.ci_yaml_lines.specs.Prelude.{key_len}
 use Rattle.ci_yaml_lines.proofs.scan.key_len.Goals as goal
 
 pub returns-then-stops_key : goal.returns-then-stops_key

@@ -1,5 +1,5 @@
 use Rattle.std.proofs.Common.{◌≡◌, ◌≤◌, ◌+◌, ◌-◌, length}
-use Rattle.ci_yaml_lines.specs.Line.{key_len}
+use Rattle.ci_yaml_lines.specs.Prelude.{key_len}
 use Rattle.ci_yaml_lines.proofs.scan.key_len.Given as goal
 
 abbrev pub invariant-scan : goal.invariant-scan

@@ -1,5 +1,5 @@
 use Rattle.std.proofs.Common.{◌≡◌, ◌+◌, drop}
-use Rattle.ci_yaml_lines.specs.Line.{place_len}
+use Rattle.ci_yaml_lines.specs.Prelude.{place_len}
 use Rattle.ci_yaml_lines.proofs.scan.place_len.Given as goal
 
 abbrev pub invariant-loop-i : goal.invariant-loop-i

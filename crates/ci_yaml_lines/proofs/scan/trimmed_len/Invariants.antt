@@ -1,5 +1,5 @@
 use Rattle.std.proofs.Common.{◌≡◌, length}
-use Rattle.ci_yaml_lines.specs.Scalar.{trimmed_len}
+use Rattle.ci_yaml_lines.specs.Prelude.{trimmed_len}
 use Rattle.ci_yaml_lines.proofs.scan.trimmed_len.Given as goal
 
 abbrev pub invariant-scan : goal.invariant-scan

@@ -1,7 +1,5 @@
 use Rattle.std.proofs.Common.{◌∙◌, ◌∷◌, ap, not}
-use Rattle.ci_yaml_lines.specs.declared.code.Code.TheVariants.{Y9, Y11}
-use Rattle.ci_yaml_lines.specs.Scalar.{when, has_tab_after, before_comment, only_comment}
-use Rattle.ci_yaml_lines.specs.Least.{least}
+use Rattle.ci_yaml_lines.specs.Prelude.{Y9, Y11, when, has_tab_after, before_comment, only_comment, least}
 use Rattle.ci_yaml_lines.proofs.Leasts.{least_two}
 use Rattle.ci_yaml_lines.proofs.written.behind_value.Goals as goal
 

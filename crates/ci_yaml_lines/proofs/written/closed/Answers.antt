@@ -1,10 +1,6 @@
 use Rattle.std.proofs.Common.{◌∙◌, ap}
-use Rattle.ci_yaml_lines.specs.declared.code.Code.TheVariants.{Y7}
-use Rattle.ci_yaml_lines.specs.Scalar.{when}
-use Rattle.ci_yaml_lines.specs.Line.{behind_value}
-use Rattle.ci_yaml_lines.specs.Tree.{Value}
+use Rattle.ci_yaml_lines.specs.Prelude.{Y7, when, behind_value, Value, bytes_of}
 use Rattle.ci_yaml_lines.proofs.Views.{view-Text}
-use Rattle.ci_yaml_lines.specs.View.{bytes_of}
 use Rattle.ci_yaml_lines.proofs.Leasts.{least_two}
 use Rattle.ci_yaml_lines.proofs.Parsed.{texted, texted_with}
 use Rattle.ci_yaml_lines.proofs.written.closed.Goals as goal

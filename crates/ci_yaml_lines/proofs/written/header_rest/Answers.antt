@@ -1,13 +1,7 @@
 use Rattle.std.proofs.Common.{◌∙◌, ap}
-use Rattle.ci_yaml_lines.specs.declared.code.Code.TheVariants.{Y9}
-use Rattle.ci_yaml_lines.specs.Tree.{Value}
-use Rattle.ci_yaml_lines.specs.Scalar.{when}
-use Rattle.ci_yaml_lines.specs.Least.{least}
-use Rattle.ci_yaml_lines.specs.Line.{digit_next, behind_value}
-use Rattle.ci_yaml_lines.specs.View.{chomp_view}
+use Rattle.ci_yaml_lines.specs.Prelude.{Y9, Value, when, least, digit_next, behind_value, chomp_view, texts_in}
 use Rattle.ci_yaml_lines.proofs.Leasts.{least_two}
 use Rattle.ci_yaml_lines.proofs.Parsed.{headed, headed_with}
-use Rattle.ci_yaml_lines.specs.Spans.{texts_in}
 use Rattle.ci_yaml_lines.proofs.SpansStand.{stand-all}
 use Rattle.ci_yaml_lines.proofs.written.header_rest.Goals as goal
 

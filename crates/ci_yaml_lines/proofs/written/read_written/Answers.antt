@@ -1,10 +1,7 @@
 use Rattle.std.proofs.Common.{[], ◌≡◌}
-use Rattle.ci_yaml_lines.specs.Scalar.{blanks, drop_blanks}
-use Rattle.ci_yaml_lines.specs.Spans.{Stand, given_texts}
+use Rattle.ci_yaml_lines.specs.Prelude.{blanks, drop_blanks, Stand, given_texts, written, written_at, spans_of, given_spans}
 use Rattle.ci_yaml_lines.proofs.SpansGiven.{stand_drop, stand-nothing, if-ok}
 use Rattle.ci_yaml_lines.proofs.SpansOf.{exact-unwritten, exact-written}
-use Rattle.ci_yaml_lines.specs.Line.{written, written_at}
-use Rattle.ci_yaml_lines.specs.SpansOf.{spans_of, given_spans}
 use Rattle.ci_yaml_lines.proofs.written.read_written.Goals as goal
 
 pub returns-then-is_only_comment-clause-spans : goal.returns-then-is_only_comment-clause-spans

@@ -1,4 +1,4 @@
-use Rattle.ci_yaml_lines.specs.Spans.{texts_in}
+use Rattle.ci_yaml_lines.specs.Prelude.{texts_in}
 use Rattle.ci_yaml_lines.proofs.SpansStand.{stand-all}
 use Rattle.ci_yaml_lines.proofs.written.unclosed.Goals as goal
 

@@ -1,5 +1,5 @@
 use Rattle.std.proofs.Common.{◌∙◌, ap}
-use Rattle.ci_board.specs.Rows.{BoardState}
+use Rattle.ci_board.specs.Prelude.{BoardState}
 use Rattle.ci_board.proofs.Assignments.{pipeline_same}
 use Rattle.ci_board.proofs.board.Board.pipeline_status.Goals as goal
 

@@ -1,7 +1,6 @@
 use Rattle.std.proofs.Common.{◌≡◌, sym, ap, ◌∙◌, length, arith}
 use Rattle.std.proofs.lemmas.List.{get_or_read}
-use Rattle.ci_board.specs.declared.facts.Row.{Row}
-use Rattle.ci_board.specs.Rows.{BoardState, row_at, no_row, statuses}
+use Rattle.ci_board.specs.Prelude.{Row, BoardState, row_at, no_row, statuses}
 use Rattle.ci_board.proofs.board.Board.status.Goals as goal
 
 pub returns-clause-assigned : goal.returns-clause-assigned

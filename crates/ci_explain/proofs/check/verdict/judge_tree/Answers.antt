@@ -1,6 +1,6 @@
 use Rattle.std.proofs.Common.{◌≡◌, ◌∙◌, length, sym, arith}
 use Rattle.std.proofs.lemmas.List.{length-map}
-use Rattle.ci_config.specs.View.{config_view, job_view}
+use Rattle.ci_config.specs.Prelude.{config_view, job_view}
 use Rattle.ci_explain.proofs.check.verdict.judge_tree.Goals as goal
 
 pub returns-in-Ok : goal.returns-in-Ok

@@ -1,6 +1,5 @@
 use Rattle.std.proofs.Common.{◌≡◌, drop, map}
-use Rattle.ci_expr.specs.Built.{Look, pattern_view, look_view, same_look}
-use Rattle.ci_expr.specs.Distinct.{is_among}
+use Rattle.ci_expr.specs.Prelude.{Look, pattern_view, look_view, same_look, is_among}
 use Rattle.ci_expr.proofs.answers.Answers.find.Given as goal
 
 abbrev pub invariant-loop-answer : goal.invariant-loop-answer

@@ -1,7 +1,5 @@
 use Rattle.std.proofs.Common.{◌≡◌, ◌++◌, true, Bool, List, filter, take, ap, sym, subst, ◌∙◌}
-use Rattle.ci_expr.specs.Answered.{answered}
-use Rattle.ci_expr.specs.Built.{Look, same_pattern, look_view, looks_view, same_look}
-use Rattle.ci_expr.specs.Distinct.{is_among, AreAmong}
+use Rattle.ci_expr.specs.Prelude.{answered, Look, same_pattern, look_view, looks_view, same_look, is_among, AreAmong}
 use Rattle.ci_expr.proofs.Answering.{pattern-itself, look-itself, among-more, among-filtered, one-of-rest, among-next}
 use Rattle.ci_expr.proofs.answers.Answers.of.Goals as goal
 use Rattle.ci_expr.proofs.answers.Answers.of.Goals.{then-is_none+in_ok-put_all, else-is_none}

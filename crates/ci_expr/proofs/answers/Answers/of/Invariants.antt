@@ -1,6 +1,5 @@
 use Rattle.std.proofs.Common.{take}
-use Rattle.ci_expr.specs.Answered.{AreAnswered}
-use Rattle.ci_expr.specs.Built.{looks_view}
+use Rattle.ci_expr.specs.Prelude.{AreAnswered, looks_view}
 use Rattle.ci_expr.proofs.answers.Answers.of.Given as goal
 
 abbrev pub invariant-loop-look : goal.invariant-loop-look

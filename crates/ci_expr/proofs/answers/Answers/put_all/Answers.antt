@@ -1,7 +1,6 @@
 use Rattle.std.proofs.Common.{◌+◌, ◌++◌, ◌∷◌, [], Bool, List, drop, filter, ap, sym, ◌∙◌, if◌then◌else◌}
 use Rattle.std.proofs.lemmas.List.{append_assoc}
-use Rattle.ci_expr.specs.Answered.{answered}
-use Rattle.ci_expr.specs.Built.{Look, pattern_view, same_pattern, look_view, looks_view}
+use Rattle.ci_expr.specs.Prelude.{answered, Look, pattern_view, same_pattern, look_view, looks_view}
 use Rattle.ci_expr.proofs.Answering.{made_next, answered_pushed}
 use Rattle.ci_expr.proofs.answers.Answers.put_all.Goals as goal
 use Rattle.ci_expr.proofs.answers.Answers.put_all.Goals.{then-same_pattern+in_ok-push, else-same_pattern}

@@ -1,6 +1,5 @@
 use Rattle.std.proofs.Common.{◌≡◌, ◌++◌, drop, filter, vec_len}
-use Rattle.ci_expr.specs.Answered.{answered}
-use Rattle.ci_expr.specs.Built.{Look, pattern_view, same_pattern, looks_view}
+use Rattle.ci_expr.specs.Prelude.{answered, Look, pattern_view, same_pattern, looks_view}
 use Rattle.ci_expr.proofs.answers.Answers.put_all.Given as goal
 
 abbrev pub invariant-loop-look : goal.invariant-loop-look

@@ -1,6 +1,6 @@
 use Rattle.std.proofs.Common.{◌≡◌, ℕ, drop, map}
-use Rattle.ci_expr.specs.Built.{Pattern, pattern_view, same_pattern}
-use Rattle.ci_expr.specs.Distinct.{is_among}
+use Rattle.ci_expr.specs.Built.{Pattern}
+use Rattle.ci_expr.specs.Prelude.{pattern_view, same_pattern, is_among}
 use Rattle.ci_expr.proofs.budget.PatternBudget.known.Given as goal
 
 abbrev pub invariant-loop-pattern : goal.invariant-loop-pattern

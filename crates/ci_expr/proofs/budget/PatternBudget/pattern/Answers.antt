@@ -1,6 +1,5 @@
-use Rattle.std.proofs.Common.{◌∙◌, subst}
-use Rattle.std.specs.Prelude.{chars, string_bytes}
-use Rattle.ci_expr.specs.Found.{IsPattern}
+use Rattle.std.proofs.Common.{◌∙◌, subst, chars, string_bytes}
+use Rattle.ci_expr.specs.Prelude.{IsPattern}
 use Rattle.ci_expr.proofs.FoundLemmas.{measured-pattern}
 use Rattle.ci_expr.proofs.budget.PatternBudget.pattern.Goals as goal
 

@@ -1,8 +1,6 @@
 use Rattle.std.proofs.Common.{◌≡◌, ap, subst, ◌∙◌}
 use Rattle.std.proofs.lemmas.Result.{err_from_is_err_and}
-use Rattle.ci_expr.specs.Answered.{AreAnswered}
-use Rattle.ci_expr.specs.Built.{values_of, looks_view, looks_of, same_look}
-use Rattle.ci_expr.specs.Distinct.{with_each, distinct}
+use Rattle.ci_expr.specs.Prelude.{AreAnswered, values_of, looks_view, looks_of, same_look, with_each, distinct}
 use Rattle.ci_expr.proofs.Answering.{answered_each, refused_looks}
 use Rattle.ci_expr.proofs.expr.Expr.value.Goals as goal
 

@@ -1,7 +1,5 @@
 use Rattle.std.proofs.Common.{◌≡◌, drop, map}
-use Rattle.ci_graph_layout.specs.Fault.{any, lacks_need}
-use Rattle.ci_graph_layout.specs.Places.{jobs_of}
-use Rattle.ci_graph_layout.specs.View.{included_view}
+use Rattle.ci_graph_layout.specs.Prelude.{any, lacks_need, jobs_of, included_view}
 use Rattle.ci_graph_layout.proofs.places.Lineup.has_lacking.Given as goal
 
 abbrev pub invariant-loop-job : goal.invariant-loop-job

@@ -1,7 +1,5 @@
 use Rattle.std.proofs.Common.{◌≡◌, drop, map}
-use Rattle.ci_config.specs.View.{need_view}
-use Rattle.ci_graph_layout.specs.Fault.{any, names_later}
-use Rattle.ci_graph_layout.specs.Places.{stages_of, jobs_of}
+use Rattle.ci_graph_layout.specs.Prelude.{need_view, any, names_later, stages_of, jobs_of}
 use Rattle.ci_graph_layout.proofs.places.Lineup.has_later.Given as goal
 
 abbrev pub invariant-loop-need : goal.invariant-loop-need

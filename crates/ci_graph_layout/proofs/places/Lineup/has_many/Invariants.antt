@@ -1,7 +1,5 @@
 use Rattle.std.proofs.Common.{◌≡◌, drop, map}
-use Rattle.ci_graph_layout.specs.Fault.{any, needs_many}
-use Rattle.ci_graph_layout.specs.Places.{jobs_of}
-use Rattle.ci_graph_layout.specs.View.{included_view}
+use Rattle.ci_graph_layout.specs.Prelude.{any, needs_many, jobs_of, included_view}
 use Rattle.ci_graph_layout.proofs.places.Lineup.has_many.Given as goal
 
 abbrev pub invariant-loop-job : goal.invariant-loop-job

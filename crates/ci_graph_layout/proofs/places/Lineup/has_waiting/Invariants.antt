@@ -1,7 +1,5 @@
 use Rattle.std.proofs.Common.{◌≡◌, drop, map}
-use Rattle.ci_graph_layout.specs.Fault.{any, waits_for_later}
-use Rattle.ci_graph_layout.specs.Places.{stages_of, jobs_of}
-use Rattle.ci_graph_layout.specs.View.{included_view}
+use Rattle.ci_graph_layout.specs.Prelude.{any, waits_for_later, stages_of, jobs_of, included_view}
 use Rattle.ci_graph_layout.proofs.places.Lineup.has_waiting.Given as goal
 
 abbrev pub invariant-loop-job : goal.invariant-loop-job

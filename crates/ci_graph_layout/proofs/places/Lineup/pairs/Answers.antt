@@ -1,7 +1,7 @@
 use Rattle.std.proofs.Common.{◌≡◌, arith, rules, ap, ◌∙◌, get_or, List}
 use Rattle.std.proofs.lemmas.List.{append_assoc}
 use Rattle.ci_graph_layout.proofs.Placing.{pairs_further}
-use Rattle.ci_graph_layout.specs.Places.{stages_of, jobs_of}
+use Rattle.ci_graph_layout.specs.Prelude.{stages_of, jobs_of}
 use Rattle.ci_graph_layout.specs.declared.inclusion.IncludedJob.{IncludedJob}
 use Rattle.ci_graph_layout.proofs.places.Lineup.pairs.Goals as goal
 

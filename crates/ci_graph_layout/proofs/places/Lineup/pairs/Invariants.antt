@@ -1,7 +1,5 @@
 use Rattle.std.proofs.Common.{◌≡◌, ◌++◌, drop, map}
-use Rattle.ci_graph_layout.specs.Layout.{pairs, pairs_from}
-use Rattle.ci_graph_layout.specs.Places.{stages_of, jobs_of}
-use Rattle.ci_graph_layout.specs.View.{included_view}
+use Rattle.ci_graph_layout.specs.Prelude.{pairs, pairs_from, stages_of, jobs_of, included_view}
 use Rattle.ci_graph_layout.proofs.places.Lineup.pairs.Given as goal
 
 abbrev pub invariant-loop-i : goal.invariant-loop-i

@@ -1,7 +1,5 @@
 use Rattle.std.proofs.Common.{◌≡◌, ◌++◌, drop, map}
-use Rattle.ci_config.specs.View.{need_view}
-use Rattle.ci_graph_layout.specs.Layout.{needed}
-use Rattle.ci_graph_layout.specs.Places.{jobs_of}
+use Rattle.ci_graph_layout.specs.Prelude.{need_view, needed, jobs_of}
 use Rattle.ci_graph_layout.proofs.places.Lineup.put_needed.Given as goal
 
 abbrev pub invariant-loop-need : goal.invariant-loop-need

@@ -1,6 +1,5 @@
 use Rattle.std.proofs.Common.{◌≡◌, ◌++◌, drop, map}
-use Rattle.ci_graph_layout.specs.Parts.{parts}
-use Rattle.ci_graph_layout.specs.View.{included_view, lineup_view}
+use Rattle.ci_graph_layout.specs.Prelude.{parts, included_view, lineup_view}
 use Rattle.ci_graph_layout.proofs.planning.PipelinePlan.parts.Given as goal
 
 abbrev pub invariant-loop-job : goal.invariant-loop-job

@@ -1,12 +1,11 @@
-use Rattle.std.proofs.Common.{◌≡◌, ◌∙◌, refl, ap, sym, true, false, inl, inr}
-use Rattle.std.specs.Prelude.{Some, None, option_and_then, is_some, if◌then◌else◌}
+use Rattle.std.proofs.Common.{◌≡◌, ◌∙◌, refl, ap, sym, true, false, inl, inr, Some, None, option_and_then, is_some, if◌then◌else◌}
 use Rattle.std.specs.Str.{is_utf8}
 use Rattle.std.proofs.lemmas.Str.{IsUtf8-from_is_utf8, is_utf8-from_IsUtf8}
 use Rattle.std.proofs.lemmas.Bool.{false_from_ne_true}
 use Rattle.serde_json.specs.Read.{read}
 use Rattle.serde_json.specs.View.{view}
 use Rattle.serde_json.specs.Find.{as_object}
-use Rattle.ci_http_messages.specs.Json.{json_of, only_object}
+use Rattle.ci_http_messages.specs.Prelude.{json_of, only_object}
 use Rattle.ci_http_messages.proofs.payloads.json.object_in.Goals as goal
 
 -- bytes that aren't UTF-8 write no object

@@ -1,12 +1,11 @@
-use Rattle.std.proofs.Common.{◌≡◌, ◌∙◌, refl, sym, true, false, arith, ◌<◌, ◌≤◌, ◌^◌, nat_lt, length}
-use Rattle.std.specs.Prelude.{ℕ, Bool, List, Some}
+use Rattle.std.proofs.Common.{◌≡◌, ◌∙◌, refl, sym, true, false, arith, ◌<◌, ◌≤◌, ◌^◌, nat_lt, length, ℕ, Bool, List, Some}
 use Rattle.std.specs.List.{list_all}
 use Rattle.std.specs.Char.{is_ascii_digit}
 use Rattle.std.specs.Str.Parse.{digits_value}
 use Rattle.std.proofs.lemmas.Bool.{and_parts}
 use Rattle.std.proofs.lemmas.Bool.Decides.{nat_tests}
-use Rattle.ci_values.specs.Numbers.{is_number, number_within}
-use Rattle.ci_http_messages.specs.Ranges.{place_in}
+use Rattle.ci_machine.specs.Prelude.{is_number, number_within}
+use Rattle.ci_http_messages.specs.Prelude.{place_in}
 use Rattle.ci_values.proofs.Digits.{value_short}
 use Rattle.ci_http_messages.proofs.payloads.range.place_in.Goals as goal
 

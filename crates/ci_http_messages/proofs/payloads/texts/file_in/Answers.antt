@@ -1,12 +1,10 @@
-use Rattle.std.proofs.Common.{◌≡◌, ℕ, List, ◌∙◌, refl, ap, sym, true, false, inl, inr}
-use Rattle.std.specs.Prelude.{Some, None, Result, Ok, Err, IfOk, IfErr, if◌then◌else◌}
+use Rattle.std.proofs.Common.{◌≡◌, ℕ, List, ◌∙◌, refl, ap, sym, true, false, inl, inr, Some, None, Result, Ok, Err, IfOk, IfErr, if◌then◌else◌}
 use Rattle.std.specs.Str.{is_utf8}
 use Rattle.std.proofs.lemmas.Str.{IsUtf8-from_is_utf8, is_utf8-from_IsUtf8}
 use Rattle.std.proofs.lemmas.Bool.{false_from_ne_true}
 use Rattle.ci_machine.specs.declared.reply.Code.{Code}
 use Rattle.ci_machine.specs.declared.reply.Code.TheVariants.{M16}
-use Rattle.ci_http_messages.specs.Refusals.{IsWhyNot}
-use Rattle.ci_http_messages.specs.Texts.{file_in}
+use Rattle.ci_http_messages.specs.Prelude.{IsWhyNot, file_in}
 use Rattle.ci_http_messages.proofs.payloads.texts.file_in.Goals as goal
 
 copied : (r : Result (List ℕ) Code) (text body : List ℕ) → IfOk r (λ copy. copy ≡ text) → text ≡ body → is_utf8 body ≡ true → IfOk r (λ file. file_in body ≡ Some file)

@@ -1,7 +1,6 @@
-use Rattle.std.proofs.Common.{◌≡◌, ap, sym, ◌∙◌}
-use Rattle.std.specs.Prelude.{ℕ, List, Option, Some, None, MatchOption, option_map, codes}
+use Rattle.std.proofs.Common.{◌≡◌, ap, sym, ◌∙◌, ℕ, List, Option, Some, None, MatchOption, option_map, codes}
 use Rattle.matchit.specs.Seek.{first}
-use Rattle.ci_http_messages.specs.declared.routing.router.Pattern.{Pattern}
+use Rattle.ci_http_messages.specs.Prelude.{Pattern}
 use Rattle.ci_http_messages.proofs.Table.{found, value_of, is-text, gives}
 use Rattle.ci_http_messages.proofs.routing.place.place_of.Goals as goal
 

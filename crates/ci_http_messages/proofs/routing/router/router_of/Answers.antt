@@ -1,6 +1,6 @@
 use Rattle.std.proofs.Common.{refl}
 use Rattle.matchit.proofs.OnLiterals.{matchit_on_literals}
-use Rattle.ci_http_messages.specs.Table.{first_rows}
+use Rattle.ci_http_messages.specs.Prelude.{first_rows}
 use Rattle.ci_http_messages.proofs.routing.router.router_of.Goals as goal
 
 pub add-requires : goal.add-requires

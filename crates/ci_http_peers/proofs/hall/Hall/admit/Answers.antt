@@ -1,5 +1,4 @@
-use Rattle.std.proofs.Common.{◌≡◌, ◌∙◌, ◌++◌, ap, sym, subst}
-use Rattle.std.specs.Prelude.{Some, slice_get}
+use Rattle.std.proofs.Common.{◌≡◌, ◌∙◌, ◌++◌, ap, sym, subst, Some, slice_get}
 use Rattle.ci_http_peers.specs.Peers.{IsNext}
 use Rattle.ci_http_peers.specs.Turns.{Seats}
 use Rattle.ci_http_peers.proofs.Turns.{as_answers, more_answers, on_ok, same_but_set, seated_goes_on, stays_after}

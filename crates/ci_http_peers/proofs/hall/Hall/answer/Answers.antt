@@ -1,6 +1,5 @@
-use Rattle.std.proofs.Common.{◌≡◌, ◌∙◌, refl, ap, subst, length, arith}
+use Rattle.std.proofs.Common.{◌≡◌, ◌∙◌, refl, ap, subst, length, arith, Some, Ok, slice_get, slice_set}
 use Rattle.ci_http_peers.specs.Answers.{text_of}
-use Rattle.std.specs.Prelude.{Some, Ok, slice_get, slice_set}
 use Rattle.ci_http_peers.specs.Turns.{writes_since}
 use Rattle.ci_http_peers.proofs.Turns.{written_back}
 use Rattle.ci_http_peers.proofs.hall.Hall.answer.Goals as goal

@@ -1,5 +1,4 @@
-use Rattle.std.proofs.Common.{◌≡◌, ◌∙◌, sym, ap, subst, length, arith}
-use Rattle.std.specs.Prelude.{Some, slice_get}
+use Rattle.std.proofs.Common.{◌≡◌, ◌∙◌, sym, ap, subst, length, arith, Some, slice_get}
 use Rattle.ci_http_peers.specs.declared.peer.Among.TheVariants.{Reading}
 use Rattle.ci_http_peers.specs.Turns.{CallsAt, is_at}
 use Rattle.ci_http_peers.proofs.Turns.{found_at, here_set, written_back}

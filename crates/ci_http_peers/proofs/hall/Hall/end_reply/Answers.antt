@@ -1,5 +1,4 @@
-use Rattle.std.proofs.Common.{◌≡◌, ◌∙◌, refl, sym, ap, length, arith}
-use Rattle.std.specs.Prelude.{Some, None, slice_get, slice_set}
+use Rattle.std.proofs.Common.{◌≡◌, ◌∙◌, refl, sym, ap, length, arith, Some, None, slice_get, slice_set}
 use Rattle.ci_http_peers.proofs.Turns.{some_step, written_back}
 use Rattle.ci_http_peers.proofs.hall.Hall.end_reply.Goals as goal
 

@@ -1,5 +1,4 @@
-use Rattle.std.proofs.Common.{◌∙◌, inl, subst}
-use Rattle.std.specs.Prelude.{slice_get}
+use Rattle.std.proofs.Common.{◌∙◌, inl, subst, slice_get}
 use Rattle.ci_http_peers.specs.Turns.{GoesOn}
 use Rattle.ci_http_peers.proofs.Turns.{answers_last_more, answers_once, answers_once_more, goes_on_more, gone_at, others_leave, same_but_twice, unheard_none}
 use Rattle.ci_http_peers.proofs.hall.Hall.go_on.Goals as goal

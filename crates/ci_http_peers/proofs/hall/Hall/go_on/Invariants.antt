@@ -1,5 +1,4 @@
-use Rattle.std.proofs.Common.{◌≡◌}
-use Rattle.std.specs.Prelude.{slice_get}
+use Rattle.std.proofs.Common.{◌≡◌, slice_get}
 use Rattle.ci_http_peers.specs.Turns.{AnswersLast, GoesOn, SameBut}
 use Rattle.ci_http_peers.proofs.hall.Hall.go_on.Given as goal
 

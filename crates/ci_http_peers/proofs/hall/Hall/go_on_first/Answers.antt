@@ -1,5 +1,4 @@
-use Rattle.std.proofs.Common.{ap, sym, subst}
-use Rattle.std.specs.Prelude.{Some, slice_get}
+use Rattle.std.proofs.Common.{ap, sym, subst, Some, slice_get}
 use Rattle.ci_http_peers.specs.Peers.{IsNext}
 use Rattle.ci_http_peers.proofs.Turns.{as_answers}
 use Rattle.ci_http_peers.proofs.hall.Hall.go_on_first.Goals as goal

@@ -1,5 +1,4 @@
-use Rattle.std.proofs.Common.{◌≡◌, ◌∙◌, ap, replicate, arith}
-use Rattle.std.specs.Prelude.{None}
+use Rattle.std.proofs.Common.{◌≡◌, ◌∙◌, ap, replicate, arith, None}
 use Rattle.ci_http_peers.specs.declared.peers.TheConstants.{MAX_PEERS}
 use Rattle.ci_http_peers.proofs.hall.Hall.new.Goals as goal
 

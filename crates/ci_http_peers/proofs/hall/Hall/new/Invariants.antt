@@ -1,5 +1,4 @@
-use Rattle.std.proofs.Common.{◌≡◌, replicate}
-use Rattle.std.specs.Prelude.{None}
+use Rattle.std.proofs.Common.{◌≡◌, replicate, None}
 use Rattle.ci_http_peers.proofs.hall.Hall.new.Given as goal
 
 abbrev pub invariant-loop : goal.invariant-loop

@@ -1,5 +1,4 @@
-use Rattle.std.proofs.Common.{inr}
-use Rattle.std.specs.Prelude.{slice_get}
+use Rattle.std.proofs.Common.{inr, slice_get}
 use Rattle.ci_http_peers.proofs.Turns.{answers_here, begins_goes_on, begins_same_but, finishes_goes_on, finishes_same_but, replied}
 use Rattle.ci_http_peers.proofs.hall.Hall.step.Goals as goal
 

@@ -1,5 +1,4 @@
-use Rattle.std.proofs.Common.{◌≡◌, ◌⊎◌, ◌∙◌, ◌++◌, ℕ, sym, ap, subst, length, take, drop, arith}
-use Rattle.std.specs.Prelude.{Some, None, slice_get}
+use Rattle.std.proofs.Common.{◌≡◌, ◌⊎◌, ◌∙◌, ◌++◌, ℕ, sym, ap, subst, length, take, drop, arith, Some, None, slice_get}
 use Rattle.ci_http_peers.specs.declared.peer.Among.TheVariants.{Writing}
 use Rattle.ci_http_peers.specs.Peers.{IsNoneOf}
 use Rattle.ci_http_peers.specs.Turns.{IsHeard, StaysOrYields, cleared}

@@ -1,8 +1,7 @@
 use Rattle.std.proofs.Common.{◌≡◌, ℕ, length, replicate, ap, ◌∙◌, arith}
 use Rattle.std.proofs.lemmas.List.{length-map, length-replicate}
 use Rattle.std.proofs.lemmas.Result.{IfOk-weaker}
-use Rattle.ci_board.specs.Rows.{no_facts}
-use Rattle.ci_machine.specs.Bodies.{status_of_jobs}
+use Rattle.ci_machine_steps.specs.Prelude.{no_facts, status_of_jobs}
 use Rattle.ci_machine_pipelines.proofs.creation.Creation.status.Goals as goal
 
 pub status_of-requires-clause-facts : goal.status_of-requires-clause-facts

@@ -2,8 +2,7 @@ use Rattle.std.proofs.Common.{◌≡◌, ℕ, length, replicate, ap, ◌∙◌, 
 use Rattle.std.proofs.lemmas.List.{length-map, length-replicate}
 use Rattle.std.proofs.lemmas.Result.{IfOk-weaker}
 use Rattle.serde_json.specs.Written.{compact_text}
-use Rattle.ci_board.specs.Rows.{no_facts}
-use Rattle.ci_machine.specs.Bodies.{pipeline_data}
+use Rattle.ci_machine_steps.specs.Prelude.{no_facts, pipeline_data}
 use Rattle.ci_machine_pipelines.proofs.creation.Creation.text.Goals as goal
 
 pub pipeline-requires-clause-facts : goal.pipeline-requires-clause-facts

@@ -1,6 +1,5 @@
 use Rattle.std.proofs.Common.{sym, subst}
-use Rattle.ci_machine.specs.Kept.{cleared, put_rows}
-use Rattle.ci_machine.specs.State.{State, applied}
+use Rattle.ci_machine_steps.specs.Prelude.{cleared, put_rows, State, applied}
 use Rattle.ci_server_lookups.proofs.Changes.{state_stays}
 use Rattle.ci_memory.specs.Quiet.{AreRightOf}
 use Rattle.ci_memory.proofs.leases.Leases.after.Goals as goal

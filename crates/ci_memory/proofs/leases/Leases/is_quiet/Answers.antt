@@ -1,7 +1,5 @@
-use Rattle.std.proofs.Common.{◌≡◌, ◌<◌, ltb-true, subst, ℕ}
-use Rattle.std.specs.Prelude.{None}
-use Rattle.ci_machine.specs.Leases.{first_due}
-use Rattle.ci_machine.specs.Lookups.{leases}
+use Rattle.std.proofs.Common.{◌≡◌, ◌<◌, ltb-true, subst, ℕ, None}
+use Rattle.ci_machine_steps.specs.Prelude.{first_due, leases}
 use Rattle.ci_memory.specs.Quiet.{IsQuiet}
 use Rattle.ci_memory.proofs.Quiets.{none_due}
 use Rattle.ci_memory.proofs.Rights.{at_some}

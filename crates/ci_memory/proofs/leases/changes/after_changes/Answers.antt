@@ -1,5 +1,5 @@
 use Rattle.std.proofs.Common.{subst, take}
-use Rattle.ci_machine.specs.State.{State, applied}
+use Rattle.ci_machine_steps.specs.Prelude.{State, applied}
 use Rattle.ci_server_lookups.proofs.Changes.{changed_more}
 use Rattle.ci_memory.specs.Quiet.{AreRightOf}
 use Rattle.ci_memory.proofs.leases.changes.after_changes.Goals as goal

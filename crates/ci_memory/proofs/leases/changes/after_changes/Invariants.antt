@@ -1,5 +1,5 @@
 use Rattle.std.proofs.Common.{take}
-use Rattle.ci_machine.specs.State.{State, applied}
+use Rattle.ci_machine_steps.specs.Prelude.{State, applied}
 use Rattle.ci_memory.specs.Quiet.{AreRightOf}
 use Rattle.ci_memory.proofs.leases.changes.after_changes.Given as goal
 

@@ -1,8 +1,7 @@
-use Rattle.std.proofs.Common.{◌≡◌, ◌++◌, map, length}
-use Rattle.std.specs.Prelude.{Ok}
+use Rattle.std.proofs.Common.{◌≡◌, ◌++◌, map, length, Ok}
 use Rattle.std.specs.Vec.Iter.{into_iter_items, into_iter_len}
-use Rattle.ci_machine.specs.Lookups.{lease_of}
-use Rattle.ci_store.specs.Store.{LoadsBy}
+use Rattle.ci_machine_steps.specs.Prelude.{lease_of}
+use Rattle.ci_store.specs.Prelude.{LoadsBy}
 use Rattle.ci_memory.proofs.leases.due.leases.Given as goal
 
 -- the leases so far, and then those of the attempts that are left, are those of all

@@ -1,6 +1,6 @@
 use Rattle.std.proofs.Common.{All, subst, List}
 use Rattle.std.proofs.lemmas.List.{take_all}
-use Rattle.ci_machine.specs.declared.lease.Lease.{Lease}
+use Rattle.ci_machine_steps.specs.Prelude.{Lease}
 use Rattle.ci_memory.specs.Quiet.{IsWithin}
 use Rattle.ci_memory.proofs.Quiets.{all_more}
 use Rattle.ci_memory.proofs.leases.due.quiet_over.Goals as goal

@@ -1,10 +1,5 @@
-use Rattle.std.specs.Prelude.{ℕ, List}
-use Rattle.std.proofs.Common.{sym, subst, subst₂}
-use Rattle.ci_machine.specs.declared.change.RowChange.{RowChange}
-use Rattle.ci_machine.specs.declared.change.IndexChange.{IndexChange}
-use Rattle.ci_machine.specs.declared.records.BoardRow.{BoardRow}
-use Rattle.ci_machine.specs.State.{State, applied}
-use Rattle.ci_machine.specs.Kept.{Kept, put_rows, cleared, written}
+use Rattle.std.proofs.Common.{ℕ, List, sym, subst, subst₂}
+use Rattle.ci_machine_steps.specs.Prelude.{RowChange, IndexChange, BoardRow, State, applied, Kept, put_rows, cleared, written}
 use Rattle.ci_memory_boards.specs.Sheets as boards
 use Rattle.ci_memory_boards.proofs.Stays.{written_in_order}
 use Rattle.ci_memory.specs.Quiet.{AreRight}

@@ -1,5 +1,5 @@
 use Rattle.std.proofs.Common.{take, subst}
-use Rattle.ci_machine.specs.State.{State, applied}
+use Rattle.ci_machine_steps.specs.Prelude.{State, applied}
 use Rattle.ci_memory.specs.Newest.{AreNewest}
 use Rattle.ci_server_lookups.proofs.Changes.{changed_more}
 use Rattle.ci_memory.proofs.newest.Newest.after.Goals as goal

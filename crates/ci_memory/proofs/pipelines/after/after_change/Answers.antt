@@ -1,12 +1,6 @@
-use Rattle.std.proofs.Common.{sym, ap, subst, ◌∙◌}
-use Rattle.std.specs.Prelude.{List}
-use Rattle.std.specs.Option.{option_copied}
+use Rattle.std.proofs.Common.{sym, ap, subst, ◌∙◌, List, option_copied}
 use Rattle.std.proofs.lemmas.Option.{IfSome_then}
-use Rattle.ci_machine.specs.declared.records.Pipeline.{Pipeline}
-use Rattle.ci_machine.specs.declared.change.RowChange.{RowChange}
-use Rattle.ci_machine.specs.declared.change.Record.TheVariants as row
-use Rattle.ci_machine.specs.Kept.{Kept}
-use Rattle.ci_machine.specs.State.{changed, with_record}
+use Rattle.ci_machine_steps.specs.Prelude.{Pipeline, RowChange, Record, Kept, changed, with_record}
 use Rattle.ci_memory.specs.Known.{Known}
 use Rattle.ci_memory.specs.Alone.{Accounts, IsRight}
 use Rattle.ci_memory.proofs.Covers.{Covers, covers, accounts}
@@ -24,7 +18,7 @@ pub returns-in-Some-put_pipeline : goal.returns-in-Some-put_pipeline
 returns-in-Some-put_pipeline c = λ k before.
     let o = c.args.known in
     let q = c.in-Some-put_pipeline.pipeline.now in
-    let IsAfter : Known → Type 0 = λ after. (k : Kept) → Accounts o k → Accounts after (record k { state = with_record (row.Pipeline q) k.state }) in
+    let IsAfter : Known → Type 0 = λ after. (k : Kept) → Accounts o k → Accounts after (record k { state = with_record (Record.Pipeline q) k.state }) in
     let is = put_is c.args.change.now q (sym c.put_pipeline.ensures ∙ ap option_copied c.in-Some-put_pipeline.is) in
     subst (λ (x : RowChange). IsRight c.ok.result (record k { state = changed x k.state })) (sym is)
     (IfSome_then c.ok.result (kept_ok IsAfter c.after_put.result c.ok.result c.ok.ensures.value c.after_put.ensures) (λ after f. f k before))

@@ -1,8 +1,6 @@
-use Rattle.std.proofs.Common.{subst}
-use Rattle.std.specs.Prelude.{take, List}
+use Rattle.std.proofs.Common.{subst, take, List}
 use Rattle.std.proofs.lemmas.List.{take_all}
-use Rattle.ci_machine.specs.State.{State, applied}
-use Rattle.ci_machine.specs.declared.change.RowChange.{RowChange}
+use Rattle.ci_machine_steps.specs.Prelude.{State, applied, RowChange}
 use Rattle.ci_server_lookups.proofs.Changes.{changed_more}
 use Rattle.ci_memory.specs.Alone.{Accounts}
 use Rattle.ci_memory.proofs.pipelines.after.after_changes.Goals as goal

@@ -1,6 +1,5 @@
 use Rattle.std.proofs.Common.{sym, subst, ⊎_elim}
-use Rattle.ci_machine.specs.Kept.{indexed}
-use Rattle.ci_machine.specs.declared.change.IndexChange.{IndexChange}
+use Rattle.ci_machine_steps.specs.Prelude.{indexed, IndexChange}
 use Rattle.ci_memory.specs.Alone.{Accounts}
 use Rattle.ci_memory.proofs.Covers.{covers, accounts}
 use Rattle.ci_memory.proofs.pipelines.after.after_index.Goals as goal

@@ -1,8 +1,6 @@
-use Rattle.std.proofs.Common.{subst}
-use Rattle.std.specs.Prelude.{take, List, IfSome}
+use Rattle.std.proofs.Common.{subst, take, List, IfSome}
 use Rattle.std.proofs.lemmas.List.{take_all}
-use Rattle.ci_machine.specs.Kept.{Kept, indexed, indexed_all}
-use Rattle.ci_machine.specs.declared.change.IndexChange.{IndexChange}
+use Rattle.ci_machine_steps.specs.Prelude.{Kept, indexed, indexed_all, IndexChange}
 use Rattle.ci_memory.specs.Known.{Known}
 use Rattle.ci_memory.specs.Alone.{Accounts}
 use Rattle.ci_memory.proofs.Stays.{indexed_more, kept_ok}

@@ -1,5 +1,5 @@
 use Rattle.std.proofs.Common.{take}
-use Rattle.ci_machine.specs.Kept.{Kept, indexed_all}
+use Rattle.ci_machine_steps.specs.Prelude.{Kept, indexed_all}
 use Rattle.ci_memory.specs.Alone.{Accounts}
 use Rattle.ci_memory.proofs.pipelines.after.after_indexes.Given as goal
 

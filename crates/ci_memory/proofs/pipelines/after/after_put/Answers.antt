@@ -1,9 +1,6 @@
-use Rattle.std.proofs.Common.{sym, ap, subst, ◌∙◌}
+use Rattle.std.proofs.Common.{sym, ap, subst, ◌∙◌, ◌≡◌, false, not, List, ◌++◌, map, filter}
 use Rattle.std.specs.List.{list_any}
-use Rattle.std.specs.Prelude.{◌≡◌, false, not, List, ◌++◌, map, filter}
-use Rattle.ci_machine.specs.declared.records.Pipeline.{Pipeline}
-use Rattle.ci_machine.specs.declared.change.Record.TheVariants as row
-use Rattle.ci_machine.specs.State.{with_record}
+use Rattle.ci_machine_steps.specs.Prelude.{Pipeline, Record, with_record}
 use Rattle.ci_memory.specs.Known.{Known}
 use Rattle.ci_memory.specs.Alone.{Accounts}
 use Rattle.ci_memory.specs.Changes.{is_unsettled}
@@ -27,7 +24,7 @@ returns c = λ k before.
     let o = c.args.known in
     let q = c.args.pipeline.now in
     let was = c.known.view_is in
-    subst (λ (known : Known). Accounts known (record k { state = with_record (row.Pipeline q) k.state }))
+    subst (λ (known : Known). Accounts known (record k { state = with_record (Record.Pipeline q) k.state }))
     (λ i. record {
       alone = sym (c.settle.ensures ∙ ap (λ (known : Known). filter (λ p. not (is_unsettled q p)) known.alone) was) i;
       suspects = sym (c.in_ok-suspect.ensures ∙ ap (λ (l : List Pipeline). c.known.inside.suspects.items ++ map (λ p. p.id) (filter (is_unsettled q) l)) c.as_slice-2.ensures.value ∙ ap (λ (known : Known). known.suspects ++ map (λ p. p.id) (filter (is_unsettled q) known.alone)) was) i;

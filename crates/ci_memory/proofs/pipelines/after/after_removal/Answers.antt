@@ -1,5 +1,4 @@
-use Rattle.std.proofs.Common.{sym, ap, ◌∙◌}
-use Rattle.std.specs.Prelude.{◌≡◌, ◌==◌, false}
+use Rattle.std.proofs.Common.{sym, ap, ◌∙◌, ◌≡◌, ◌==◌, false}
 use Rattle.std.specs.List.{list_any}
 use Rattle.ci_memory.specs.Known.{Known}
 use Rattle.ci_memory.proofs.Covers.{covers, accounts, after_removal}

@@ -1,6 +1,5 @@
-use Rattle.std.proofs.Common.{sym, ap, subst, ◌∙◌}
-use Rattle.std.specs.Prelude.{not, ◌==◌, filter}
-use Rattle.ci_machine.specs.Kept.{without_open}
+use Rattle.std.proofs.Common.{sym, ap, subst, ◌∙◌, not, ◌==◌, filter}
+use Rattle.ci_machine_steps.specs.Prelude.{without_open}
 use Rattle.ci_memory.specs.Known.{Known}
 use Rattle.ci_memory.specs.Alone.{Accounts}
 use Rattle.ci_memory.proofs.Covers.{covers, accounts, after_close}

@@ -1,6 +1,5 @@
 use Rattle.std.proofs.Common.{subst}
-use Rattle.ci_machine.specs.Kept.{Kept, cleared, put_rows}
-use Rattle.ci_machine.specs.State.{applied}
+use Rattle.ci_machine_steps.specs.Prelude.{Kept, cleared, put_rows, applied}
 use Rattle.ci_memory.specs.Alone.{IsRight}
 use Rattle.ci_memory.proofs.Covers.{covers, accounts}
 use Rattle.ci_memory.proofs.pipelines.after.open_after.Goals as goal

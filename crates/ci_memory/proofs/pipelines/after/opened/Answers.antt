@@ -1,7 +1,6 @@
-use Rattle.std.proofs.Common.{sym, ap, subst, ◌∙◌}
-use Rattle.std.specs.Prelude.{◌==◌, ◌++◌, ◌∷◌, []}
+use Rattle.std.proofs.Common.{sym, ap, subst, ◌∙◌, ◌==◌, ◌++◌, ◌∷◌, []}
 use Rattle.std.specs.List.{list_any}
-use Rattle.ci_machine.specs.Kept.{with_open}
+use Rattle.ci_machine_steps.specs.Prelude.{with_open}
 use Rattle.ci_memory.specs.Known.{Known}
 use Rattle.ci_memory.specs.Alone.{Accounts}
 use Rattle.ci_memory.proofs.Covers.{covers, accounts, after_open, after_open_again, has_number}

@@ -1,7 +1,6 @@
-use Rattle.std.proofs.Common.{rules}
-use Rattle.std.specs.Prelude.{not, ◌==◌}
+use Rattle.std.proofs.Common.{rules, not, ◌==◌}
 use Rattle.std.proofs.lemmas.Fn.{filter_same}
-use Rattle.ci_machine.specs.declared.records.Pipeline.{Pipeline}
+use Rattle.ci_machine_steps.specs.Prelude.{Pipeline}
 use Rattle.ci_memory.proofs.pipelines.after.take_out.Goals as goal
 
 pub returns : goal.returns

@@ -1,12 +1,6 @@
-use Rattle.std.specs.Prelude.{◌≡◌, ℕ, IfSome, All, true, ◌&&◌, ◌==◌}
+use Rattle.std.proofs.Common.{◌≡◌, ℕ, IfSome, All, true, ◌&&◌, ◌==◌, subst, ◌∙◌}
 use Rattle.std.specs.List.{list_any}
-use Rattle.std.proofs.Common.{subst, ◌∙◌}
-use Rattle.ci_machine.specs.declared.records.Job.{Job}
-use Rattle.ci_machine.specs.Ranges.{is_within}
-use Rattle.ci_machine.specs.Redundant.{is_bound_to}
-use Rattle.ci_machine_steps.specs.Sound.{IsSound}
-use Rattle.ci_machine.specs.State.{State}
-use Rattle.ci_machine.specs.Statuses.{jobs_of}
+use Rattle.ci_machine_steps.specs.Prelude.{Job, is_within, is_bound_to, IsSound, State, jobs_of}
 use Rattle.ci_machine.proofs.Keyed.{has_from_all}
 use Rattle.ci_server_lookups.proofs.Loading.{so}
 use Rattle.ci_memory.proofs.Supersedes.{held_back_is}

@@ -1,7 +1,6 @@
-use Rattle.std.proofs.Common.{sym, ap, subst, ◌∙◌}
-use Rattle.std.specs.Prelude.{◌≡◌, ℕ, List, ◌++◌, map}
-use Rattle.ci_machine.specs.declared.records.Pipeline.{Pipeline}
-use Rattle.ci_server_lookups.specs.Unfinished.{AreOpen}
+use Rattle.std.proofs.Common.{sym, ap, subst, ◌∙◌, ◌≡◌, ℕ, List, ◌++◌, map}
+use Rattle.ci_machine_steps.specs.Prelude.{Pipeline}
+use Rattle.ci_server_lookups.specs.Prelude.{AreOpen}
 use Rattle.ci_memory.specs.Known.{Known}
 use Rattle.ci_memory.proofs.Covers.{all_numbers}
 use Rattle.ci_memory.proofs.pipelines.open.numbers_known.Goals as goal

@@ -1,5 +1,4 @@
-use Rattle.std.specs.Prelude.{Ok, drop, ◌+◌, List, ℕ}
-use Rattle.std.proofs.Common.{refl, subst}
+use Rattle.std.proofs.Common.{Ok, drop, ◌+◌, List, ℕ, refl, subst}
 use Rattle.std.proofs.lemmas.List.{at_drop_more}
 use Rattle.ci_server_lookups.proofs.Loading.{so}
 use Rattle.ci_memory.specs.Looks.{IsLooked}

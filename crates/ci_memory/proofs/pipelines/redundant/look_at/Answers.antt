@@ -1,14 +1,8 @@
-use Rattle.std.specs.Prelude.{◌≡◌, ℕ, Bool, Result, Ok, Some, None, true, false, cond, not, Option, is_some}
+use Rattle.std.proofs.Common.{◌≡◌, ℕ, Bool, Result, Ok, Some, None, true, false, cond, not, Option, is_some, refl, sym, ap, ◌∙◌}
 use Rattle.std.specs.List.{list_any}
-use Rattle.std.proofs.Common.{refl, sym, ap, ◌∙◌}
-use Rattle.ci_machine.specs.declared.records.Pipeline.{Pipeline}
-use Rattle.ci_machine.specs.Kept.{Kept}
-use Rattle.ci_machine.specs.Redundant.{is_newer_of}
-use Rattle.ci_machine.specs.Indexes.{newer_in}
-use Rattle.ci_machine.specs.Lookups.{pipeline_at}
-use Rattle.ci_store.specs.declared.fault.StoreFault.{StoreFault}
-use Rattle.ci_store.specs.Store.{LoadsBy}
-use Rattle.ci_server_lookups.specs.Keeps.{IsKept}
+use Rattle.ci_machine_steps.specs.Prelude.{Pipeline, Kept, is_newer_of, newer_in, pipeline_at}
+use Rattle.ci_server_lookups.specs.Prelude.{StoreFault, IsKept}
+use Rattle.ci_store.specs.Prelude.{LoadsBy}
 use Rattle.ci_server_lookups.proofs.Loading.{so}
 use Rattle.ci_server_lookups.proofs.Holds.{any_if_some}
 use Rattle.ci_memory.specs.Looks.{IsSeen}

@@ -1,6 +1,5 @@
-use Rattle.std.proofs.Common.{sym, subst}
-use Rattle.std.specs.Prelude.{List, Option, ℕ, ◌++◌, ◌∷◌, []}
-use Rattle.ci_machine.specs.declared.records.Pipeline.{Pipeline}
+use Rattle.std.proofs.Common.{sym, subst, List, Option, ℕ, ◌++◌, ◌∷◌, []}
+use Rattle.ci_machine_steps.specs.Prelude.{Pipeline}
 use Rattle.ci_memory.specs.Alone.{Accounts}
 use Rattle.ci_memory.specs.Redundant.{IsLeast}
 use Rattle.ci_memory.specs.Looks.{IsSeen}

@@ -1,6 +1,6 @@
 use Rattle.std.proofs.Common.{◌≡◌, Err, sym, subst}
 use Rattle.std.proofs.lemmas.Result.{err_from_is_err_and}
-use Rattle.ci_machine.specs.Kept.{Kept, cleared, written}
+use Rattle.ci_machine_steps.specs.Prelude.{Kept, cleared, written}
 use Rattle.ci_memory.specs.Remembered.{Remembered}
 use Rattle.ci_memory.specs.Right.{IsRight}
 use Rattle.ci_memory.proofs.Failing.{fails_too}

@@ -1,5 +1,5 @@
 use Rattle.std.proofs.Common.{sym, ◌∙◌}
-use Rattle.ci_machine.specs.State.{applied}
+use Rattle.ci_machine_steps.specs.Prelude.{applied}
 use Rattle.ci_memory.specs.declared.runners.Runners.{Runners}
 use Rattle.ci_memory.specs.declared.runners.Runners.TheVariants.{Unknown, Many, All}
 use Rattle.ci_memory.specs.Runners.{AreRunners}

@@ -1,7 +1,6 @@
-use Rattle.std.specs.Prelude.{All, IfSome}
-use Rattle.std.proofs.Common.{subst}
+use Rattle.std.proofs.Common.{All, IfSome, subst}
 use Rattle.std.proofs.lemmas.Option.{IfSome_then}
-use Rattle.ci_server_lookups.specs.Sheets.{IsRight}
+use Rattle.ci_server_lookups.specs.Prelude.{IsRight}
 use Rattle.ci_memory_boards.proofs.boards.Boards.take.Goals as goal
 
 -- those that are left are right, as all were

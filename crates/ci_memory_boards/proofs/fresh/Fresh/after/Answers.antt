@@ -1,6 +1,5 @@
 use Rattle.std.proofs.lemmas.Option.{IfSome_then}
-use Rattle.ci_machine.specs.Kept.{Kept, put_rows, cleared}
-use Rattle.ci_machine.specs.State.{applied}
+use Rattle.ci_machine_steps.specs.Prelude.{Kept, put_rows, cleared, applied}
 use Rattle.ci_server_lookups.proofs.Changes.{state_stays, board_stays}
 use Rattle.ci_memory_boards.proofs.FreshStays.{fresh_cleared, fresh_same}
 use Rattle.ci_memory_boards.proofs.fresh.Fresh.after.Goals as goal

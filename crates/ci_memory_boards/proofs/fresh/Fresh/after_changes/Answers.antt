@@ -1,6 +1,6 @@
 use Rattle.std.proofs.Common.{ap, subst, take}
 use Rattle.std.proofs.lemmas.List.{take_all}
-use Rattle.ci_machine.specs.State.{State, applied}
+use Rattle.ci_machine_steps.specs.Prelude.{State, applied}
 use Rattle.ci_memory_boards.specs.Fresh.{IsFresh}
 use Rattle.ci_server_lookups.proofs.Changes.{changed_more}
 use Rattle.ci_memory_boards.proofs.FreshStays.{fresh_changed}

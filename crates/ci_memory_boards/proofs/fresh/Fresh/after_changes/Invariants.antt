@@ -1,6 +1,5 @@
 use Rattle.std.proofs.Common.{take}
-use Rattle.ci_machine.specs.Kept.{Kept}
-use Rattle.ci_machine.specs.State.{applied}
+use Rattle.ci_machine_steps.specs.Prelude.{Kept, applied}
 use Rattle.ci_memory_boards.specs.Fresh.{IsFresh}
 use Rattle.ci_memory_boards.proofs.fresh.Fresh.after_changes.Given as goal
 

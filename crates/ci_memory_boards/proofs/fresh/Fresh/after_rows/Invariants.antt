@@ -1,5 +1,5 @@
 use Rattle.std.proofs.Common.{take}
-use Rattle.ci_machine.specs.Kept.{Kept, put_rows}
+use Rattle.ci_machine_steps.specs.Prelude.{Kept, put_rows}
 use Rattle.ci_memory_boards.specs.Fresh.{IsFresh}
 use Rattle.ci_memory_boards.proofs.fresh.Fresh.after_rows.Given as goal
 

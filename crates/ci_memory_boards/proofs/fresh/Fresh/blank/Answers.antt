@@ -1,5 +1,4 @@
-use Rattle.std.specs.Prelude.{◌≤◌}
-use Rattle.std.proofs.Common.{refl, sym, subst}
+use Rattle.std.proofs.Common.{◌≤◌, refl, sym, subst}
 use Rattle.ci_memory_boards.proofs.FreshStays.{blank_is_right}
 use Rattle.ci_memory_boards.proofs.fresh.Fresh.blank.Goals as goal
 

@@ -1,5 +1,5 @@
 use Rattle.std.proofs.Common.{refl}
-use Rattle.ci_machine.specs.declared.records.GroupOrder.TheVariants.{OldestFirst, NewestReadyFirst}
+use Rattle.ci_machine_steps.specs.Prelude.{OldestFirst, NewestReadyFirst}
 use Rattle.ci_server_lookups.proofs.Loading.{says}
 use Rattle.ci_memory_queue.specs.declared.lines.Line.{Line}
 use Rattle.ci_memory_queue.proofs.LineFirsts.{keeps_waiting, keeps_ready, first_by}

@@ -1,5 +1,4 @@
-use Rattle.std.specs.Prelude.{Ok}
-use Rattle.std.proofs.Common.{refl, sym, ◌∙◌}
+use Rattle.std.proofs.Common.{Ok, refl, sym, ◌∙◌}
 use Rattle.ci_server_lookups.proofs.Loading.{so}
 use Rattle.ci_memory_queue.proofs.LineFirsts.{not_found}
 use Rattle.ci_memory_queue.proofs.lines.first.first_of.Goals as goal

@@ -1,5 +1,5 @@
 use Rattle.std.specs.Prelude.{ℕ, length, Contains, Ok}
-use Rattle.ci_store.specs.Store.{LoadsBy}
+use Rattle.ci_store.specs.Prelude.{LoadsBy}
 use Rattle.ci_memory_queue.specs.First.{IsInGroup}
 use Rattle.ci_memory_queue.proofs.lines.first.first_of.Given as goal
 

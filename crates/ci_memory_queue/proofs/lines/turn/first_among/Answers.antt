@@ -1,6 +1,5 @@
-use Rattle.std.specs.Prelude.{ℕ, ◌<◌, List, length, Contains}
-use Rattle.std.proofs.Common.{ap, subst, ◌∙◌, arith}
-use Rattle.ci_machine.specs.declared.records.GroupOrder.{GroupOrder}
+use Rattle.std.proofs.Common.{ℕ, ◌<◌, List, length, Contains, ap, subst, ◌∙◌, arith}
+use Rattle.ci_machine_steps.specs.Prelude.{GroupOrder}
 use Rattle.ci_server_lookups.proofs.Loading.{says}
 use Rattle.ci_memory_queue.specs.declared.lines.Line.{Line}
 use Rattle.ci_memory_queue.specs.LineCovers.{is_line_of, IsFirstAt, jobs_in}

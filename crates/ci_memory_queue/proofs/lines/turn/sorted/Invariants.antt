@@ -1,6 +1,5 @@
-use Rattle.std.proofs.Common.{drop}
-use Rattle.std.specs.Prelude.{Ok}
-use Rattle.ci_store.specs.Store.{LoadsBy}
+use Rattle.std.proofs.Common.{drop, Ok}
+use Rattle.ci_store.specs.Prelude.{LoadsBy}
 use Rattle.ci_memory_queue.specs.LineCovers.{Covers}
 use Rattle.ci_memory_queue.proofs.lines.turn.sorted.Given as goal
 

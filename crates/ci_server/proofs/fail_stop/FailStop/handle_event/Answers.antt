@@ -1,5 +1,5 @@
 use Rattle.std.proofs.Common.{rules}
-use Rattle.ci_machine.specs.declared.request.Event.TheVariants as event
+use Rattle.ci_machine_steps.specs.Prelude.{Event}
 use Rattle.ci_server.proofs.Handling.{handled_as}
 use Rattle.ci_server.proofs.fail_stop.FailStop.handle_event.Goals as goal
 
@@ -7,4 +7,4 @@ pub returns-in-Request : goal.returns-in-Request
 returns-in-Request g c = handled_as (c.args.event, c.args.moment, c.args.seed) _ (search rules) c.handle.ensures
 
 pub returns-in-Sweep : goal.returns-in-Sweep
-returns-in-Sweep g c = handled_as (c.args.event, c.args.moment, c.args.seed) event.Sweep (search rules) (c.sweep.ensures c.args.seed)
+returns-in-Sweep g c = handled_as (c.args.event, c.args.moment, c.args.seed) Event.Sweep (search rules) (c.sweep.ensures c.args.seed)

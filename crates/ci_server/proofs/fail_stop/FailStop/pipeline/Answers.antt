@@ -1,8 +1,8 @@
 use Rattle.std.proofs.Common.{subst, refl}
-use Rattle.ci_machine.specs.Lookups.{pipeline_at}
+use Rattle.ci_machine_steps.specs.Prelude.{pipeline_at}
 use Rattle.ci_server_events.specs.Told.{TellsPipeline}
-use Rattle.ci_server_lookups.specs.Keeps.{IsKept}
-use Rattle.ci_server.specs.Reports.{TellsPipelineAt}
+use Rattle.ci_server_lookups.specs.Prelude.{IsKept}
+use Rattle.ci_server.specs.Prelude.{TellsPipelineAt}
 use Rattle.ci_server.proofs.Reports.{reported}
 use Rattle.ci_server.proofs.fail_stop.FailStop.pipeline.Goals as goal
 

@@ -1,7 +1,7 @@
 use Rattle.std.proofs.Common.{◌≡◌, ◌∙◌, ap, refl}
-use Rattle.ci_machine.specs.ReportRows.{queue_rows}
-use Rattle.ci_server_lookups.specs.Keeps.{IsKept}
-use Rattle.ci_server.specs.Reports.{TellsQueue}
+use Rattle.ci_machine_steps.specs.Prelude.{queue_rows}
+use Rattle.ci_server_lookups.specs.Prelude.{IsKept}
+use Rattle.ci_server.specs.Prelude.{TellsQueue}
 use Rattle.ci_server.proofs.Reports.{reported}
 use Rattle.ci_server.proofs.fail_stop.FailStop.queue.Goals as goal
 

@@ -1,9 +1,7 @@
 use Rattle.std.proofs.Common.{◌++◌, ◌∷◌, [], take, List, arith, sym, subst₂, ap, ◌∙◌}
 use Rattle.std.proofs.lemmas.List.{take_more}
-use Rattle.ci_machine.specs.declared.reply.Answer.{Answer}
-use Rattle.ci_server.specs.Handling.{Call}
-use Rattle.ci_server.specs.Holding.{Holds, Leaves}
-use Rattle.ci_server.specs.Server.{HandlesEachBy}
+use Rattle.ci_machine_steps.specs.Prelude.{Answer}
+use Rattle.ci_server.specs.Prelude.{Call, Holds, Leaves, HandlesEachBy}
 use Rattle.ci_server.proofs.Runs.{each_more}
 use Rattle.ci_server.proofs.fail_stop.FailStop.run.Goals as goal
 

@@ -1,6 +1,5 @@
 use Rattle.std.proofs.Common.{◌≡◌, ◌≤◌, take, length, vec_len, vec_capacity}
-use Rattle.ci_server.specs.Holding.{Holds, Leaves}
-use Rattle.ci_server.specs.Server.{HandlesEachBy}
+use Rattle.ci_server.specs.Prelude.{Holds, Leaves, HandlesEachBy}
 use Rattle.ci_server.proofs.fail_stop.FailStop.run.Given as goal
 
 -- the calls so far were handled one after the other, with the answers so far, and there is room for the others

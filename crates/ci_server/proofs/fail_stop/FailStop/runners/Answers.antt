@@ -1,6 +1,6 @@
 use Rattle.std.proofs.Common.{◌≡◌, ◌∙◌, ap, refl}
-use Rattle.ci_machine.specs.ReportRows.{runner_rows}
-use Rattle.ci_server.specs.Reports.{TellsRunners}
+use Rattle.ci_machine_steps.specs.Prelude.{runner_rows}
+use Rattle.ci_server.specs.Prelude.{TellsRunners}
 use Rattle.ci_server.proofs.Reports.{reported}
 use Rattle.ci_server.proofs.fail_stop.FailStop.runners.Goals as goal
 

@@ -1,5 +1,5 @@
 use Rattle.std.proofs.Common.{sym, subst, arith}
-use Rattle.ci_server.specs.Server.{Creates}
+use Rattle.ci_server.specs.Prelude.{Creates}
 use Rattle.ci_server.proofs.Keeping.{creates}
 use Rattle.ci_server.proofs.server.Server.create.Goals as goal
 

@@ -1,5 +1,5 @@
 use Rattle.std.proofs.Common.{sym, subst}
-use Rattle.ci_server.specs.Server.{Opens}
+use Rattle.ci_server.specs.Prelude.{Opens}
 use Rattle.ci_server.proofs.Keeping.{opens}
 use Rattle.ci_server.proofs.server.Server.open.Goals as goal
 

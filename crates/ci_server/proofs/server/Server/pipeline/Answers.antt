@@ -1,5 +1,5 @@
 use Rattle.std.proofs.Common.{subst}
-use Rattle.ci_server.specs.Reports.{Reports, TellsPipelineAt}
+use Rattle.ci_server.specs.Prelude.{Reports, TellsPipelineAt}
 use Rattle.ci_server.proofs.server.Server.pipeline.Goals as goal
 
 pub returns : goal.returns

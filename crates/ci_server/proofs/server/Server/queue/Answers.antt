@@ -1,5 +1,5 @@
 use Rattle.std.proofs.Common.{subst}
-use Rattle.ci_server.specs.Reports.{Reports, TellsQueue}
+use Rattle.ci_server.specs.Prelude.{Reports, TellsQueue}
 use Rattle.ci_server.proofs.server.Server.queue.Goals as goal
 
 pub returns : goal.returns

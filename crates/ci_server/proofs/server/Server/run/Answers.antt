@@ -1,9 +1,7 @@
-use Rattle.std.specs.Prelude.{IfOk}
-use Rattle.std.proofs.Common.{subst}
-use Rattle.sqlite.specs.Held.{Held}
+use Rattle.std.proofs.Common.{IfOk, subst}
+use Rattle.ci_store.specs.Prelude.{Held}
 use Rattle.ci_memory.specs.declared.remembering.Remembering.{Remembering}
-use Rattle.ci_server.specs.Holding.{HoldsIn, LeavesIn}
-use Rattle.ci_server.specs.Server.{IsHonest, HandlesEach}
+use Rattle.ci_server.specs.Prelude.{HoldsIn, LeavesIn, IsHonest, HandlesEach}
 use Rattle.ci_server.proofs.Runs.{run_of_each, closes_each, refuses_each, ok_then}
 use Rattle.ci_server.proofs.SentAgain.{repeats_of_each}
 use Rattle.ci_server.proofs.server.Server.run.Goals as goal

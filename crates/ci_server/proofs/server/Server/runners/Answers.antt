@@ -1,5 +1,5 @@
 use Rattle.std.proofs.Common.{subst}
-use Rattle.ci_server.specs.Reports.{Reports, TellsRunners}
+use Rattle.ci_server.specs.Prelude.{Reports, TellsRunners}
 use Rattle.ci_server.proofs.server.Server.runners.Goals as goal
 
 pub returns : goal.returns

@@ -1,6 +1,5 @@
 use Rattle.std.proofs.Common.{◌≡◌, ◌++◌, List, drop, map}
-use Rattle.ci_machine.specs.declared.records.BoardRow.{BoardRow}
-use Rattle.ci_machine.specs.Statuses.{row_for}
+use Rattle.ci_machine_steps.specs.Prelude.{BoardRow, row_for}
 use Rattle.ci_server_events.specs.Told.{job_told}
 use Rattle.ci_server_events.proofs.overview.pipeline.job_rows.Given as goal
 

@@ -1,12 +1,7 @@
 use Rattle.std.proofs.Common.{◌≡◌, ◌∙◌, List, ℕ, length, sym, ap, subst}
 use Rattle.std.proofs.lemmas.Result.{IfOk-weaker, IfErr-weaker}
-use Rattle.ci_machine.specs.declared.records.Attempt.{Attempt}
-use Rattle.ci_machine.specs.declared.records.BoardRow.{BoardRow}
-use Rattle.ci_machine.specs.declared.records.Job.{Job}
-use Rattle.ci_machine.specs.Kept.{Kept}
-use Rattle.ci_machine_statuses.specs.Lookups.{AreRecords}
-use Rattle.ci_server_lookups.specs.Faults.{as_store_fault}
-use Rattle.ci_server_lookups.specs.Records.{AreOf}
+use Rattle.ci_machine_steps.specs.Prelude.{Attempt, BoardRow, Job, Kept}
+use Rattle.ci_server_lookups.specs.Prelude.{AreRecords, as_store_fault, AreOf}
 use Rattle.ci_server_lookups.specs.declared.records.Records.{Records}
 use Rattle.ci_server_lookups.proofs.Loading.{carried, handed_on}
 use Rattle.ci_server_events.proofs.overview.pipeline.standing.Goals as goal

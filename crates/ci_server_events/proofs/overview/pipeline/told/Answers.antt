@@ -1,7 +1,5 @@
 use Rattle.std.proofs.Common.{◌∙◌, sym, ap, map}
-use Rattle.ci_machine.specs.declared.records.Job.{Job}
-use Rattle.ci_machine.specs.Bodies.{status_of_jobs}
-use Rattle.ci_machine.specs.Statuses.{row_for}
+use Rattle.ci_machine_steps.specs.Prelude.{Job, status_of_jobs, row_for}
 use Rattle.ci_server_events.specs.Told.{job_told}
 use Rattle.ci_server_events.proofs.ReportJobs.{head_told, jobs_told, passed_on, rows_told}
 use Rattle.ci_server_events.proofs.overview.pipeline.told.Goals as goal

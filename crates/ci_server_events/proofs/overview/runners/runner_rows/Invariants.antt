@@ -1,8 +1,6 @@
-use Rattle.std.proofs.Common.{◌≡◌, ◌++◌, drop, map}
-use Rattle.std.specs.Prelude.{Ok}
-use Rattle.ci_machine.specs.Lookups.{live_attempts}
-use Rattle.ci_machine.specs.ReportRows.{runner_row, runner_rows}
-use Rattle.ci_store.specs.Store.{LoadsBy}
+use Rattle.std.proofs.Common.{◌≡◌, ◌++◌, drop, map, Ok}
+use Rattle.ci_machine_steps.specs.Prelude.{live_attempts, runner_row, runner_rows}
+use Rattle.ci_store.specs.Prelude.{LoadsBy}
 use Rattle.ci_server_events.proofs.overview.runners.runner_rows.Given as goal
 
 -- the runners that are told, with those that are left, are all

@@ -1,8 +1,7 @@
-use Rattle.std.specs.Prelude.{ℕ, List}
+use Rattle.std.proofs.Common.{ℕ, List, subst, sym, ◌∙◌}
 use Rattle.std.specs.List.{AllByRecursion}
-use Rattle.std.proofs.Common.{subst, sym, ◌∙◌}
-use Rattle.ci_machine.specs.Kept.{cleared}
-use Rattle.ci_machine_statuses.specs.Changes.{LeavesStatuses}
+use Rattle.ci_machine_steps.specs.Prelude.{cleared}
+use Rattle.ci_server_lookups.specs.Prelude.{LeavesStatuses}
 use Rattle.ci_server_events.specs.Planning.{Settles}
 use Rattle.ci_server_events.proofs.Leaving.{alone_settles}
 use Rattle.ci_server_events.proofs.planned.Planned.of_records.Goals as goal

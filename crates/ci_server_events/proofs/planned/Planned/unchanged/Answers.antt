@@ -1,6 +1,6 @@
 use Rattle.std.specs.List.{AllByRecursion}
 use Rattle.std.proofs.Common.{subst, sym}
-use Rattle.ci_machine_statuses.specs.Changes.{LeavesStatuses}
+use Rattle.ci_server_lookups.specs.Prelude.{LeavesStatuses}
 use Rattle.ci_server_events.proofs.planned.Planned.unchanged.Goals as goal
 
 pub of_records-requires : goal.of_records-requires

@@ -1,8 +1,6 @@
 use Rattle.std.proofs.Common.{rules, ◌∙◌, [], ◌∷◌, ap}
-use Rattle.sqlite.specs.Order.{column}
-use Rattle.sqlite.specs.Values.{or_null}
-use Rattle.ci_store_rows.specs.Rows.{number}
-use Rattle.ci_store_rows.specs.Load.{HasState}
+use Rattle.ci_store.specs.Prelude.{column, or_null}
+use Rattle.ci_store_rows.specs.Prelude.{number, HasState}
 use Rattle.ci_store_rows.proofs.Reading.{row9, option_cell}
 use Rattle.ci_store_rows.proofs.attempt.AttemptLoaded.read.Goals as goal
 

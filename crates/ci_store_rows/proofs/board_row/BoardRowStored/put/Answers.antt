@@ -1,9 +1,7 @@
 use Rattle.std.proofs.Common.{[], ◌∷◌, subst, ◌∙◌}
-use Rattle.sqlite.specs.Values.{bound_value}
-use Rattle.ci_store.specs.Statements.{HasPut}
+use Rattle.ci_store.specs.Prelude.{bound_value, HasPut}
 use Rattle.ci_store.proofs.Scalars.{on_ok}
-use Rattle.ci_store_rows.specs.declared.texts.TheConstants.{UPDATE_ROW, INSERT_ROW}
-use Rattle.ci_store_rows.specs.Rows.{number}
+use Rattle.ci_store_rows.specs.Prelude.{UPDATE_ROW, INSERT_ROW, number}
 use Rattle.ci_store_rows.proofs.Board.{row_puts}
 use Rattle.ci_store_rows.proofs.board_row.BoardRowStored.put.Goals as goal
 

@@ -1,7 +1,6 @@
 use Rattle.std.proofs.Common.{◌∙◌, [], ◌∷◌, string_bytes, subst, sym}
-use Rattle.sqlite.specs.declared.types.Value.TheVariants.{Text}
-use Rattle.ci_store_rows.specs.Reads.{ReadsDemand}
-use Rattle.ci_store_rows.specs.Rows.{number}
+use Rattle.ci_store.specs.Prelude.{Text}
+use Rattle.ci_store_rows.specs.Prelude.{ReadsDemand, number}
 use Rattle.ci_store_rows.proofs.Reading.{row3}
 use Rattle.ci_store_rows.proofs.Reading.{if_ok, both_ok}
 use Rattle.ci_store_rows.proofs.demand.DemandLoaded.read.Goals as goal

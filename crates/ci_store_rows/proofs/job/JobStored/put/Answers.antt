@@ -1,10 +1,7 @@
 use Rattle.std.proofs.Common.{[], ◌∷◌, subst, ◌∙◌}
-use Rattle.sqlite.specs.declared.types.Value.TheVariants.{Text}
-use Rattle.sqlite.specs.Values.{bound_value}
-use Rattle.ci_store.specs.Statements.{HasPut}
+use Rattle.ci_store.specs.Prelude.{Text, bound_value, HasPut}
 use Rattle.ci_store.proofs.Scalars.{on_ok}
-use Rattle.ci_store_rows.specs.declared.texts.TheConstants.{UPDATE_JOB, INSERT_JOB}
-use Rattle.ci_store_rows.specs.Rows.{number, flag}
+use Rattle.ci_store_rows.specs.Prelude.{UPDATE_JOB, INSERT_JOB, number, flag}
 use Rattle.ci_store_rows.proofs.Jobs.{job_puts}
 use Rattle.ci_store_rows.proofs.job.JobStored.put.Goals as goal
 

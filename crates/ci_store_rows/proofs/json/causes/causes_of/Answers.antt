@@ -2,9 +2,8 @@ use Rattle.std.proofs.Common.{rules, ◌≡◌, ◌∙◌, ℕ, List, Bool, map,
 use Rattle.std.specs.List.{list_any}
 use Rattle.serde_json.specs.Data.{array}
 use Rattle.serde_json.specs.View.{view, items_of}
-use Rattle.ci_values.specs.declared.attempts.Cause.TheVariants.{UnknownFailure, ScriptFailure, ApiFailure, StuckOrTimeoutFailure, RunnerSystemFailure, JobExecutionTimeout}
-use Rattle.ci_store_rows.specs.JsonText.{causes_data}
-use Rattle.ci_store_rows.specs.Reads.{is_text}
+use Rattle.ci_machine.specs.Prelude.{UnknownFailure, ScriptFailure, ApiFailure, StuckOrTimeoutFailure, RunnerSystemFailure, JobExecutionTimeout}
+use Rattle.ci_store_rows.specs.Prelude.{causes_data, is_text}
 use Rattle.ci_store_rows.proofs.JsonReading.{named}
 use Rattle.ci_store_rows.proofs.json.causes.causes_of.Goals as goal
 

@@ -1,8 +1,8 @@
 use Rattle.std.proofs.Common.{◌≡◌, ◌++◌, map, filter, drop}
 use Rattle.serde_json.specs.Data.{string}
 use Rattle.serde_json.specs.View.{view}
-use Rattle.ci_values.specs.Attempts.{has_cause}
-use Rattle.ci_store_rows.specs.JsonText.{cause_text, every_cause}
+use Rattle.ci_machine.specs.Prelude.{has_cause}
+use Rattle.ci_store_rows.specs.Prelude.{cause_text, every_cause}
 use Rattle.ci_store_rows.proofs.json.causes.causes_value.Given as goal
 
 abbrev pub invariant-loop-cause : goal.invariant-loop-cause

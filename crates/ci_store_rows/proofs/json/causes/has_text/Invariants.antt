@@ -1,7 +1,7 @@
 use Rattle.std.proofs.Common.{◌≡◌, map, drop}
 use Rattle.std.specs.List.{list_any}
 use Rattle.serde_json.specs.View.{view}
-use Rattle.ci_store_rows.specs.Reads.{is_text}
+use Rattle.ci_store_rows.specs.Prelude.{is_text}
 use Rattle.ci_store_rows.proofs.json.causes.has_text.Given as goal
 
 abbrev pub invariant-loop-item : goal.invariant-loop-item

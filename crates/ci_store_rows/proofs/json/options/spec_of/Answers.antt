@@ -1,7 +1,7 @@
 use Rattle.std.proofs.Common.{◌≡◌, codes, refl, sym, ◌∙◌}
 use Rattle.serde_json.specs.Data.{array, boolean, number, unsigned}
 use Rattle.serde_json.specs.View.{view}
-use Rattle.ci_store_rows.specs.JsonText.{strings, group_data, spec_data}
+use Rattle.ci_store_rows.specs.Prelude.{strings, group_data, spec_data}
 use Rattle.ci_store_rows.proofs.JsonReading.{same_strings, same_group, member_is}
 use Rattle.ci_store_rows.proofs.json.options.spec_of.Goals as goal
 

@@ -1,5 +1,5 @@
 use Rattle.serde_json.specs.View.{view}
-use Rattle.ci_store_rows.specs.JsonText.{spec_data}
+use Rattle.ci_store_rows.specs.Prelude.{spec_data}
 use Rattle.ci_store_rows.proofs.JsonTexts.{spec_float, spec_low, told, told_back}
 use Rattle.ci_store_rows.proofs.json.options.spec_text.Goals as goal
 

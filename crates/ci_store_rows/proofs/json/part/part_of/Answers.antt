@@ -1,7 +1,7 @@
 use Rattle.std.proofs.Common.{◌≡◌, codes, refl, sym, ◌∙◌}
 use Rattle.serde_json.specs.Data.{boolean}
 use Rattle.serde_json.specs.View.{view}
-use Rattle.ci_store_rows.specs.JsonText.{spec_data}
+use Rattle.ci_store_rows.specs.Prelude.{spec_data}
 use Rattle.ci_store_rows.proofs.JsonReading.{same_when, same_allow, member_is}
 use Rattle.ci_store_rows.proofs.json.part.part_of.Goals as goal
 

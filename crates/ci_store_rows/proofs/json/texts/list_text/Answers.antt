@@ -1,6 +1,6 @@
 use Rattle.std.proofs.Common.{arith}
 use Rattle.serde_json.specs.View.{view}
-use Rattle.ci_store_rows.specs.JsonText.{list_data}
+use Rattle.ci_store_rows.specs.Prelude.{list_data}
 use Rattle.ci_store_rows.proofs.JsonTexts.{no_float, flat, told, told_back}
 use Rattle.ci_store_rows.proofs.json.texts.list_text.Goals as goal
 

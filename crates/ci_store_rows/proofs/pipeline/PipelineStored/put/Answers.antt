@@ -1,10 +1,7 @@
 use Rattle.std.proofs.Common.{[], ◌∷◌, subst, ◌∙◌}
-use Rattle.sqlite.specs.declared.types.Value.TheVariants.{Text}
-use Rattle.sqlite.specs.Values.{bound_value}
-use Rattle.ci_store.specs.Statements.{HasPut}
+use Rattle.ci_store.specs.Prelude.{Text, bound_value, HasPut}
 use Rattle.ci_store.proofs.Scalars.{on_ok}
-use Rattle.ci_store_rows.specs.declared.texts.TheConstants.{UPDATE_PIPELINE, INSERT_PIPELINE}
-use Rattle.ci_store_rows.specs.Rows.{number}
+use Rattle.ci_store_rows.specs.Prelude.{UPDATE_PIPELINE, INSERT_PIPELINE, number}
 use Rattle.ci_store_rows.proofs.Pipelines.{pipeline_puts}
 use Rattle.ci_store_rows.proofs.pipeline.PipelineStored.put.Goals as goal
 

@@ -1,10 +1,7 @@
 use Rattle.std.proofs.Common.{[], ◌∷◌, subst, ◌∙◌}
-use Rattle.sqlite.specs.declared.types.Value.TheVariants.{Text}
-use Rattle.sqlite.specs.Values.{bound_value}
-use Rattle.ci_store.specs.Statements.{HasPut}
+use Rattle.ci_store.specs.Prelude.{Text, bound_value, HasPut}
 use Rattle.ci_store.proofs.Scalars.{on_ok}
-use Rattle.ci_store_rows.specs.declared.texts.TheConstants.{UPDATE_PROJECT, INSERT_PROJECT}
-use Rattle.ci_store_rows.specs.Rows.{number}
+use Rattle.ci_store_rows.specs.Prelude.{UPDATE_PROJECT, INSERT_PROJECT, number}
 use Rattle.ci_store_rows.proofs.Records.{bound_words}
 use Rattle.ci_store_rows.proofs.Projects.{project_puts}
 use Rattle.ci_store_rows.proofs.project.ProjectStored.put.Goals as goal

@@ -1,5 +1,5 @@
 use Rattle.std.proofs.Common.{◌∙◌, [], ◌∷◌}
-use Rattle.sqlite.specs.Order.{column}
+use Rattle.ci_store.specs.Prelude.{column}
 use Rattle.ci_store_rows.proofs.Reading.{row7, option_cell}
 use Rattle.ci_store_rows.proofs.runner.RunnerLoaded.read.Goals as goal
 

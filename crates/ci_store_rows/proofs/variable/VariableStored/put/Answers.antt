@@ -1,10 +1,7 @@
 use Rattle.std.proofs.Common.{[], ◌∷◌, subst, ◌∙◌}
-use Rattle.sqlite.specs.declared.types.Value.TheVariants.{Text}
-use Rattle.sqlite.specs.Values.{bound_value}
-use Rattle.ci_store.specs.Statements.{HasPut}
+use Rattle.ci_store.specs.Prelude.{Text, bound_value, HasPut}
 use Rattle.ci_store.proofs.Scalars.{on_ok}
-use Rattle.ci_store_rows.specs.declared.texts.TheConstants.{UPDATE_VARIABLE, INSERT_VARIABLE}
-use Rattle.ci_store_rows.specs.Rows.{number}
+use Rattle.ci_store_rows.specs.Prelude.{UPDATE_VARIABLE, INSERT_VARIABLE, number}
 use Rattle.ci_store_rows.proofs.Variables.{variable_puts}
 use Rattle.ci_store_rows.proofs.variable.VariableStored.put.Goals as goal
 

@@ -1,7 +1,6 @@
 use Rattle.std.proofs.Common.{◌∙◌, sym, subst, ap, not, IsTrue}
-use Rattle.sqlite.specs.State.{HasCleanDisk}
-use Rattle.sqlite.specs.Held.{state}
-use Rattle.ci_store_rows.specs.Stands.{IsAt, LeavesOnly}
+use Rattle.ci_store.specs.Prelude.{HasCleanDisk, state}
+use Rattle.ci_store_sqlite.specs.Prelude.{IsAt, LeavesOnly}
 use Rattle.ci_store_sqlite.proofs.Looking.{open_at}
 use Rattle.ci_store_sqlite.proofs.asked.Asked.ask.Goals as goal
 

@@ -1,9 +1,6 @@
 use Rattle.std.proofs.Common.{◌∙◌, ◌≤◌, sym, subst}
-use Rattle.sqlite.specs.State.{HasCleanDisk, IsUnchanged}
-use Rattle.sqlite.specs.Held.{state}
-use Rattle.sqlite_trees.specs.View.{doubt}
-use Rattle.ci_machine.specs.Kept.{Kept}
-use Rattle.ci_store_rows.specs.Stands.{IsAt, LeavesOnly}
+use Rattle.ci_store.specs.Prelude.{HasCleanDisk, IsUnchanged, state, doubt, Kept}
+use Rattle.ci_store_sqlite.specs.Prelude.{IsAt, LeavesOnly}
 use Rattle.ci_store_sqlite.proofs.Looking.{looks, if_shown}
 use Rattle.ci_store_sqlite.proofs.asked.Asked.look_up.Goals as goal
 

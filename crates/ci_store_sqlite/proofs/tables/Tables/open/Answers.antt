@@ -1,7 +1,6 @@
 use Rattle.std.proofs.Common.{arith, sym, subst, ⊎_elim}
-use Rattle.sqlite.specs.State.{HasCleanDisk}
-use Rattle.sqlite.specs.Held.{state}
-use Rattle.ci_store_rows.specs.Stands.{Stands, IsAt}
+use Rattle.ci_store.specs.Prelude.{HasCleanDisk, state}
+use Rattle.ci_store_sqlite.specs.Prelude.{Stands, IsAt}
 use Rattle.ci_store_sqlite.proofs.Openings.{never_blamed}
 use Rattle.ci_store_sqlite.proofs.tables.Tables.open.Goals as goal
 

@@ -1,10 +1,7 @@
 use Rattle.std.proofs.Common.{rules, ◌≡◌, ◌∙◌, Err, ap, sym, subst, arith}
 use Rattle.std.proofs.lemmas.Result.{err_from_is_err_and}
-use Rattle.sqlite.specs.State.{HasCleanDisk}
-use Rattle.sqlite.specs.Held.{state}
-use Rattle.ci_machine.specs.Kept.{cleared, written}
-use Rattle.ci_store.specs.Store.{Ends}
-use Rattle.ci_store_rows.specs.Stands.{LeavesOnly, LeavesEither}
+use Rattle.ci_store.specs.Prelude.{HasCleanDisk, state, cleared, written, Ends}
+use Rattle.ci_store_sqlite.specs.Prelude.{LeavesOnly, LeavesEither}
 use Rattle.ci_store_sqlite.proofs.Looking.{ends, ends_unbegun}
 use Rattle.ci_store_sqlite.proofs.tables.TablesStore.commit.Goals as goal
 

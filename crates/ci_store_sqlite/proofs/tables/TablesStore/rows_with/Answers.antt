@@ -1,7 +1,5 @@
 use Rattle.std.proofs.Common.{[], ◌∷◌, ◌≡◌, ◌∙◌, subst}
-use Rattle.ci_store_rows.specs.Rows.{number, board_row}
-use Rattle.ci_store_rows.specs.Found.{ShowsRecords}
-use Rattle.ci_store_rows.specs.declared.texts.TheConstants.{SELECT_ROWS_WITH}
+use Rattle.ci_store_sqlite.specs.Prelude.{number, board_row, ShowsRecords, SELECT_ROWS_WITH}
 use Rattle.ci_store_sqlite.proofs.Loading.{begun}
 use Rattle.ci_store_sqlite.proofs.Looking.{loads_so}
 use Rattle.ci_store_rows.proofs.Board.{plain_select_with, rows_with_found}

@@ -1,5 +1,5 @@
 use Rattle.std.proofs.Common.{[], ◌∷◌}
-use Rattle.sqlite.specs.Values.{bound_value}
+use Rattle.ci_store.specs.Prelude.{bound_value}
 use Rattle.ci_store_sqlite.proofs.Loading.{begun}
 use Rattle.ci_store_sqlite.proofs.Looking.{loads_so}
 use Rattle.ci_store_sqlite.proofs.Looking.{by_params}

@@ -1,7 +1,7 @@
 use Rattle.std.proofs.Common.{◌≡◌, ◌<◌, ◌≤◌, ℕ, List, length, take, All, arith, subst}
 use Rattle.std.proofs.lemmas.List.{take_all}
 use Rattle.std.proofs.lemmas.List.Elements.{All-more}
-use Rattle.ci_graph.specs.Pairs.{AreWithin}
+use Rattle.ci_machine.specs.Prelude.{AreWithin}
 use Rattle.ci_tests.proofs.board.within.are_within.Goals as goal
 
 both_within : (n : ℕ) (ps : List (ℕ × ℕ)) (k : ℕ) → length ps ≤ k → All (λ p. p.0 < n) (take k ps) → All (λ p. p.1 < n) (take k ps) → AreWithin n ps

@@ -1,8 +1,6 @@
 use Rattle.std.proofs.Common.{◌∙◌, ap, sym}
-use Rattle.ci_yaml.specs.Reading.{has_name}
-use Rattle.ci_yaml_lines.specs.TreeView.{pairs_view}
+use Rattle.ci_yaml.specs.Prelude.{has_name, pairs_view, pairs_texts}
 use Rattle.ci_yaml.proofs.Keys.{keys-more}
-use Rattle.ci_yaml_lines.specs.TreeTexts.{pairs_texts}
 use Rattle.ci_yaml_lines.proofs.Views.{pairs-push}
 use Rattle.ci_yaml_lines.proofs.SpansTexts.{pairs_texts-push}
 use Rattle.ci_yaml.proofs.open_map.OpenMap.more.Goals as goal

@@ -1,13 +1,6 @@
-use Rattle.std.proofs.Common.{◌≡◌, [], ◌++◌, sym, subst}
-use Rattle.std.specs.Prelude.{IfOk}
+use Rattle.std.proofs.Common.{◌≡◌, [], ◌++◌, sym, subst, IfOk}
 use Rattle.std.specs.Global.{Vec}
-use Rattle.ci_yaml_lines.specs.declared.tree.Tree.{Tree}
-use Rattle.ci_yaml_lines.specs.Tree.{sequence, node, push}
-use Rattle.ci_yaml_lines.specs.View.{value_view, items_view}
-use Rattle.ci_yaml_lines.specs.Spans.{texts_in, items_texts}
-use Rattle.ci_yaml.specs.declared.progress.Open.{Open}
-use Rattle.ci_yaml.specs.View.{open_kind, open_done, open_name}
-use Rattle.ci_yaml.specs.Spans.{open_texts}
+use Rattle.ci_yaml.specs.Prelude.{Tree, sequence, node, push, value_view, items_view, texts_in, items_texts, Open, open_kind, open_done, open_name, open_texts}
 use Rattle.ci_yaml.proofs.progress.Frame.close.Goals as goal
 
 pub returns-in-Items-clause-value : goal.returns-in-Items-clause-value

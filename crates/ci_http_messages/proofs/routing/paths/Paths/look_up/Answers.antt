@@ -1,5 +1,5 @@
 use Rattle.std.proofs.Common.{ap, ◌∙◌}
-use Rattle.ci_http_messages.specs.Routes.{asked_of}
+use Rattle.ci_http_messages.specs.Prelude.{asked_of}
 use Rattle.ci_http_messages.proofs.Groups.{leads, leads-nowhere}
 use Rattle.ci_http_messages.proofs.routing.paths.Paths.look_up.Goals as goal
 
