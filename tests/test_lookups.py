@@ -112,6 +112,13 @@ class Lookups(unittest.TestCase):
         self.addCleanup(world.stop)
         return world
 
+    def made(self):
+        """A world with projects and runners alone."""
+        world = self.counted(0)
+        for line in MADE:
+            world.do(line)
+        return world
+
     def least(self):
         """So many requests for memory a poll makes for which nothing can be looked up: the store has nothing but its runner, which was seen before."""
         world = self.counted(0)
@@ -133,9 +140,7 @@ class Lookups(unittest.TestCase):
 
     def first_poll(self, count):
         """So many requests for memory the first poll of a server makes that was just opened, beside so many pending jobs that don't fit."""
-        world = self.counted(0)
-        for line in MADE:
-            world.do(line)
+        world = self.made()
         for number in range(count):
             world.do(f'create 2 pending{number}')
         world.restart()
@@ -157,9 +162,7 @@ class Lookups(unittest.TestCase):
             self.assertLess(world.cost('show-mode 3 prod'), least + statement)
 
     def test_so_many_pipelines_are_remembered(self):
-        world = self.counted(0)
-        for line in MADE:
-            world.do(line)
+        world = self.made()
         world.do('create 1 first')
         first = world.granted(3)
         world.do(IDLE)
@@ -176,9 +179,7 @@ class Lookups(unittest.TestCase):
     def test_a_list_pushes_out_nothing_that_is_under_way(self):
         # What the list has that isn't remembered is more than can be, and has finished; or it is pending, as no runner fits.
         for project, finishes in ((1, True), (2, False)):
-            world = self.counted(0)
-            for line in MADE:
-                world.do(line)
+            world = self.made()
             for number in range(2 * REMEMBERED + 1):
                 world.do(f'create {project} other{number}')
                 if finishes:
