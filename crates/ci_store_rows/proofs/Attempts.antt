@@ -1,29 +1,30 @@
 -- The statements that write `attempt`.
-use Rattle.std.proofs.Common.{◌∙◌, ℕ, Bool, pos, List, [], ◌∷◌, filter, reverse, refl, ap, ◌≡◌, ◌==◌, ◌&&◌, true, Option, sym, map, take, drop, codes, if◌then◌else◌, None, Some, inl, inr, nat_lt}
+use Rattle.std.proofs.Common.{◌∙◌, ℕ, Bool, pos, List, [], ◌∷◌, filter, reverse, refl, ap, ◌≡◌, ◌==◌, ◌&&◌, true, Option, sym, map, take, drop, codes, if◌then◌else◌, None, Some}
 use Rattle.ci_store.specs.Prelude.{Null, Text, Row, column, Term, lit, col, everything, understood, Ghosts, Held, state, Kept, with_record, without_record, attempt_cmp, Attempt}
 use Rattle.ci_store.specs.Prelude.{Record, Key, image, places, HasPut, is_live, attempts_of, is_within, attempts_within, attempt_at, live_attempts, last_attempt_by, equal, Le, Ge}
-use Rattle.ci_store.specs.Prelude.{Gt, plain, joined, Enforced, works, pairs, loses, or_null}
+use Rattle.ci_store.specs.Prelude.{plain, joined, Enforced, works, pairs, loses}
 use Rattle.sqlite_keyed.proofs.ListLemmas.{ascending-filter}
 use Rattle.ci_store.proofs.Puts.{MeansPut, MeansRemove, GivesRecord}
 use Rattle.ci_store.proofs.Absent.{absent_rowid}
 use Rattle.ci_store.proofs.Scalars.{cast_int, compares}
 use Rattle.ci_store_rows.specs.Prelude.{UPDATE_ATTEMPT, INSERT_ATTEMPT, DELETE_ATTEMPT, SELECT_ATTEMPT, SELECT_ATTEMPTS_OF, SELECT_ATTEMPTS_IN, SELECT_ATTEMPTS_WITHIN}
-use Rattle.ci_store_rows.specs.Prelude.{SELECT_ATTEMPTS_ABOVE, SELECT_ATTEMPTS_BY, LAST_INTEGER, the_schema, attempt, number, attempt_row, state_number, cause_in, exit_in}
+use Rattle.ci_store_rows.specs.Prelude.{SELECT_ATTEMPTS_ABOVE, SELECT_ATTEMPTS_BY, the_schema, attempt, number, attempt_row, state_number, cause_in, exit_in}
 use Rattle.ci_store_rows.specs.Prelude.{rows_by_tree, rows_of, Stands, IsAt, ShowsRecords, listed, FindsNumber, in_state, RemovesUnreferred, cause_number}
 use Rattle.ci_store_rows.proofs.OneList.{IsAlike, alike_but, regular_with_attempts}
 use Rattle.ci_store_rows.proofs.Lists.{put_rises, by_number}
-use Rattle.ci_store_rows.proofs.Records.{is, at_least, at_most, put_stands, same_number, finds_number, finds_within, numbered, cast_option, above, finds_beyond}
+use Rattle.ci_store_rows.proofs.Records.{is, at_least, at_most, put_stands, same_number, finds_number, finds_within, numbered, cast_option}
 use Rattle.sqlite.specs.Collation.TheVariants.{Binary}
 use Rattle.sqlite.proofs.Callers.{IsPlain}
 use Rattle.ci_store.proofs.Selects.{MeansSelect, MeansSelectTo}
 use Rattle.ci_machine.specs.Prelude.{is_live_state, AttemptState, Live, Succeeded, Failed, Cancelled, Cause, UnknownFailure, ScriptFailure, ApiFailure, StuckOrTimeoutFailure}
 use Rattle.ci_machine.specs.Prelude.{RunnerSystemFailure, JobExecutionTimeout}
-use Rattle.ci_store_rows.proofs.Shows.{columns_of, names_of, by, backward, shows_passing, shows_sorted, shows_backward, found_one, found_all, found_first, first_of_one, last_of_those, rising_numbers, falling_numbers, found_none}
+use Rattle.ci_store_rows.proofs.Shows.{columns_of, names_of, by, backward, shows_sorted, shows_backward, found_all, found_first, first_of_one, last_of_those, rising_numbers, falling_numbers}
+use Rattle.ci_store_rows.proofs.Numbered.{MeansNumbered, numbered_found}
 use Rattle.std.specs.List.{list_any}
 use Rattle.ci_store_rows.proofs.Removals.{Referring, queries, cascades, removed_numbered}
 use Rattle.ci_store_rows.proofs.Blocks.{refers_to_attempt}
 use Rattle.ci_store_rows.proofs.Holders.{holders_refer}
-use Rattle.ci_store_rows.proofs.Same.{same_option}
+use Rattle.ci_store_rows.proofs.Same.{number_of, text_of, same_option}
 
 abbrev sets : List Term
 sets = col 0 0 ∷ lit Null ∷ col 0 1 ∷ col 0 2 ∷ col 0 3 ∷ col 0 4 ∷ col 0 5 ∷ col 0 6 ∷ col 0 7 ∷ col 0 8 ∷ []
@@ -93,49 +94,25 @@ state_is Cancelled = refl
 
 same_attempt : (p q : Attempt) → attempt_row p ≡ attempt_row q → p ≡ q
 same_attempt p q h =
-    let a : p.id ≡ q.id = cc in
-    let b : p.job ≡ q.job = cc in
-    let c : p.runner ≡ q.runner = cc in
-    let d : p.token ≡ q.token = cc in
-    let e : p.granted ≡ q.granted = cc in
-    let f : p.seen ≡ q.seen = cc in
-    let n : state_number p.state ≡ state_number q.state = cc in
-    let m : or_null number (cause_in p.state) ≡ or_null number (cause_in q.state) = cc in
-    let x : or_null number (exit_in p.state) ≡ or_null number (exit_in q.state) = cc in
-    let state = sym (state_is p.state) ∙ (λ i. state_back (n i) (same_option _ _ m i) (same_option _ _ x i)) ∙ state_is q.state in
-    λ i. record { id = a i; job = b i; runner = c i; token = d i; granted = e i; seen = f i; state = state i }
+    let cause = same_option (cause_in p.state) (cause_in q.state) (λ i. column (h i) 7) in
+    let exit = same_option (exit_in p.state) (exit_in q.state) (λ i. column (h i) 8) in
+    let state = sym (state_is p.state) ∙ (λ i. state_back (number_of (h i) 6) (cause i) (exit i)) ∙ state_is q.state in
+    λ i. record { id = number_of (h i) 0; job = number_of (h i) 1; runner = number_of (h i) 2; token = text_of (h i) 3; granted = number_of (h i) 4; seen = number_of (h i) 5; state = state i }
 
 -- ---- the queries that load
 
-means_select : MeansSelect the_schema attempt SELECT_ATTEMPT.now (is 0 0 ∷ []) (columns_of attempt) [] (names_of attempt)
+means_numbered : MeansNumbered attempt SELECT_ATTEMPT.now SELECT_ATTEMPTS_ABOVE.now
 unfolding understood everything
-means_select = record { is = refl; unlisted = refl; plain = (refl, refl) }
+means_numbered = record { at_number = record { is = refl; unlisted = refl; plain = (refl, refl) }; over_it = record { is = refl; unlisted = refl; plain = (refl, refl) } }
 
 pub plain_select : IsPlain (understood the_schema SELECT_ATTEMPT.now)
-plain_select = means_select.plain
-
-pub attempt_found : {S : Type 0} (g : Ghosts S) (old new : Held S) (k : Kept) → IsAt g k old → (id : ℕ) (found : Option Attempt) → ShowsRecords (λ row x. row ≡ attempt_row x) g SELECT_ATTEMPT.now (number id ∷ []) old new (listed found) → found ≡ attempt_at k.state id
-attempt_found g old new k at id found h =
-    found_one (λ row x. row ≡ attempt_row x) attempt_row (λ x. x.id == id) k.state.attempts (λ x y _ same. sym (same_attempt y x same)) h.rows
-    (shows_passing attempt_row 6 attempt refl SELECT_ATTEMPT.now (is 0 0 ∷ []) (number id ∷ []) (λ im. equal Binary (column im 0) (number id) && true) (λ r. refl) (λ x. x.id == id) (λ x. finds_number x.id id) k k.state.attempts refl h.rows
-    (λ r. refl) means_select (state g old) (state g new) at.now h.shown)
-    found h.read
-
-means_select_above : MeansSelect the_schema attempt SELECT_ATTEMPTS_ABOVE.now (above 0 0 ∷ []) (columns_of attempt) [] (names_of attempt)
-unfolding understood everything
-means_select_above = record { is = refl; unlisted = refl; plain = (refl, refl) }
+plain_select = means_numbered.at_number.plain
 
 pub plain_select_above : IsPlain (understood the_schema SELECT_ATTEMPTS_ABOVE.now)
-plain_select_above = means_select_above.plain
+plain_select_above = means_numbered.over_it.plain
 
 pub attempt_named : {S : Type 0} (g : Ghosts S) (old new : Held S) (k : Kept) → IsAt g k old → (id : ℕ) (found : Option Attempt) → FindsNumber (λ row x. row ≡ attempt_row x) g SELECT_ATTEMPT.now SELECT_ATTEMPTS_ABOVE.now id old new found → found ≡ attempt_at k.state id
-attempt_named g old new k at id found (inl h) = attempt_found g old new k at id found h
-attempt_named g old new k at id found (inr h) =
-    h.0
-    ∙ sym (found_none (λ (x : Attempt). x.id) LAST_INTEGER id h.1 (λ row x. row ≡ attempt_row x) attempt_row k.state.attempts h.2.rows
-    (shows_passing attempt_row 6 attempt refl SELECT_ATTEMPTS_ABOVE.now (above 0 0 ∷ []) (number LAST_INTEGER ∷ []) (λ im. compares Gt (column im 0) (number LAST_INTEGER) && true) (λ r. refl) (λ x. nat_lt LAST_INTEGER x.id) (λ x. finds_beyond LAST_INTEGER x.id) k k.state.attempts refl h.2.rows
-    (λ r. refl) means_select_above (state g old) (state g new) at.now h.2.shown)
-    h.2.read)
+attempt_named g old new k at = numbered_found g old new (λ row x. row ≡ attempt_row x) attempt_row 6 attempt refl (λ key r. refl) k k.state.attempts refl (λ x y _ same. sym (same_attempt y x same)) at.now (λ x. x.id) (λ x. refl) (λ n r. refl) (λ n r. refl) SELECT_ATTEMPT.now SELECT_ATTEMPTS_ABOVE.now means_numbered
 
 pub means_select_of : MeansSelect the_schema attempt SELECT_ATTEMPTS_OF.now (is 2 0 ∷ []) (columns_of attempt) (by 0) (names_of attempt)
 unfolding understood everything

@@ -3,13 +3,12 @@ use Rattle.std.proofs.Common.{◌≡◌, ◌∙◌, ◌==◌, ◌++◌, ℕ, pos
 use Rattle.std.proofs.Common.{reverse, IsPermutation, nat_cmp}
 use Rattle.std.specs.List.{flat_map, last_or}
 use Rattle.std.proofs.lemmas.List.Sorted.{IsPermutation-map}
-use Rattle.ci_store.specs.Prelude.{IsAscending, is_null, equal, cast, Integer, Null, Blob, Row, column, Term, col, Trees, Database, everything, understood, Shown, Ghosts, Held}
+use Rattle.ci_store.specs.Prelude.{IsAscending, is_null, equal, cast, Integer, Null, Blob, Row, column, col, Database, everything, understood, Shown, Ghosts, Held}
 use Rattle.ci_store.specs.Prelude.{state, Kept, without_record, with_bytes, trace_cmp, trace_of, Trace, Key, HoldsRows, without, HasPut}
 use Rattle.sqlite_keyed.proofs.ListLemmas.{flat_map-map, ascending_weaker, ascending-filter}
 use Rattle.sqlite_value.specs.declared.keys.Collation.TheVariants.{Binary}
 use Rattle.sqlite.proofs.Callers.{IsPlain}
-use Rattle.ci_store.proofs.Writes.{IsWholeStep, whole_if_alone}
-use Rattle.ci_store.proofs.Puts.{MeansPut, MeansRemove, GivesRecord}
+use Rattle.ci_store.proofs.Puts.{MeansPut, GivesRecord}
 use Rattle.ci_store.proofs.Absent.{absent_unique}
 use Rattle.ci_store.proofs.Scalars.{cast_int, equal_int}
 use Rattle.ci_store.proofs.Selects.{MeansSelect, MeansSelectTo}
@@ -20,7 +19,8 @@ use Rattle.ci_store_rows.proofs.OneList.{IsAlike, alike_but, regular_with_traces
 use Rattle.ci_store_rows.proofs.Lists.{put_rises, by_number, without_is}
 use Rattle.ci_store_rows.proofs.Records.{is, is_number, finds_number, put_moved, same_number}
 use Rattle.ci_store_rows.proofs.Removals.{Referring}
-use Rattle.ci_store_rows.proofs.Owned.{tests, sets, terms, unnumbered, agrees, removed_owned}
+use Rattle.ci_store_rows.proofs.Owned.{tests, sets, terms, unnumbered, agrees, RemovesAlone, removed_owned}
+use Rattle.ci_store_rows.proofs.Same.{number_of}
 use Rattle.ci_store_rows.proofs.Shows.{columns_of, names_of, by, backward, shows_sorted, shows_backward, found_first, first_of_one, last_of_those, rising_number, falling_within}
 use Rattle.ci_store_rows.proofs.BlockLists.{trace, is_at, block_put, blocks_without, blocks_of_one, places_rise, joined, no_bytes, in_two}
 
@@ -82,27 +82,19 @@ stands_in_two k attempt first second db stands = subst (λ ts. Stands (record k 
 
 -- ---- the whole trace of an attempt goes
 
-means_remove : MeansRemove the_schema 7 piece DELETE_BLOCKS.now (is 1 0 ∷ [])
+removes : RemovesAlone 7 piece DELETE_BLOCKS.now (is 1 0 ∷ [])
 unfolding understood everything
-means_remove = record { there = refl; apart = refl; delete_is = refl; delete_plain = (refl, refl) }
-
-whole : (asked : List Term) (params : Row) (db : Trees) → IsWholeStep the_schema piece asked params db
-unfolding everything
-whole asked params db = whole_if_alone the_schema piece asked params db (λ olds. refl)
+removes = record { means = record { there = refl; apart = refl; delete_is = refl; delete_plain = (refl, refl) }; alone = λ olds. refl }
 
 pub trace_removed : {S : Type 0} (g : Ghosts S) (old new : Held S) (attempt : ℕ) (k : Kept) → Stands k (state g old).now → RemovesUnreferred g [] DELETE_BLOCKS.now (number attempt ∷ []) old new → Stands (in_state (without_record (Key.Trace attempt)) k) (state g new).now
 trace_removed g old new attempt k =
     removed_owned g old new block_row 7 piece (is 1 0 ∷ []) (λ b. is_eq (nat_cmp b.attempt attempt)) (all_blocks k.state.traces) (number attempt ∷ []) k (in_state (without_record (Key.Trace attempt)) k) refl (ap (map block_row) (blocks_without attempt k.state.traces)) (alike k (in_state (without_record (Key.Trace attempt)) k).state.traces)
-    (λ o. regular_with_traces k _ (ascending-filter _ _ k.state.traces o.traces) o) (λ b. same_number b.attempt attempt) (λ r. refl) DELETE_BLOCKS.now means_remove (whole (is 1 0 ∷ []))
+    (λ o. regular_with_traces k _ (ascending-filter _ _ k.state.traces o.traces) o) (λ b. same_number b.attempt attempt) (λ r. refl) DELETE_BLOCKS.now removes
 
 -- ---- two blocks with the same row
 
 same_block : (p q : Block) → block_row p ≡ block_row q → p ≡ q
-same_block p q h =
-    let a : p.attempt ≡ q.attempt = cc in
-    let b : p.seq ≡ q.seq = cc in
-    let c : p.bytes ≡ q.bytes = cc in
-    λ i. record { attempt = a i; seq = b i; bytes = c i }
+same_block p q h = λ i. record { attempt = number_of (h i) 0; seq = number_of (h i) 1; bytes = bytes_in (column (h i) 2) }
 
 -- ---- the queries that load
 

@@ -17,7 +17,9 @@ use Rattle.ci_store_rows.proofs.OneList.{IsAlike, alike_but, regular_with_board}
 use Rattle.ci_store_rows.proofs.Lists.{put_rises, by_number}
 use Rattle.ci_store_rows.proofs.Records.{is, at_least, at_most, put_stands, same_number, finds_number, finds_within, numbered}
 use Rattle.ci_store_rows.proofs.Removals.{Referring, cascades, removed_numbered}
-use Rattle.ci_store_rows.proofs.Shows.{columns_of, names_of, by, shows_passing, shows_sorted, found_one, found_all, rising_numbers}
+use Rattle.ci_store_rows.proofs.Same.{number_of}
+use Rattle.ci_store_rows.proofs.Shows.{columns_of, names_of, by, shows_sorted, found_all, rising_numbers}
+use Rattle.ci_store_rows.proofs.Numbered.{one_found}
 
 abbrev sets : List Term
 sets = col 0 0 ∷ lit Null ∷ col 0 1 ∷ col 0 2 ∷ col 0 3 ∷ col 0 4 ∷ []
@@ -77,13 +79,8 @@ status_is Status.Manual = refl
 
 same_row : (p q : BoardRow) → board_row p ≡ board_row q → p ≡ q
 same_row p q h =
-    let a : p.job ≡ q.job = cc in
-    let n : status_number p.row.status ≡ status_number q.row.status = cc in
-    let b : p.row.opens ≡ q.row.opens = cc in
-    let c : p.row.failed ≡ q.row.failed = cc in
-    let d : p.row.barred ≡ q.row.barred = cc in
-    let status = sym (status_is p.row.status) ∙ ap status_back n ∙ status_is q.row.status in
-    λ i. record { job = a i; row = record { status = status i; opens = b i; failed = c i; barred = d i } }
+    let status = sym (status_is p.row.status) ∙ (λ i. status_back (number_of (h i) 1)) ∙ status_is q.row.status in
+    λ i. record { job = number_of (h i) 0; row = record { status = status i; opens = number_of (h i) 2; failed = number_of (h i) 3; barred = number_of (h i) 4 } }
 
 -- ---- the queries that load
 
@@ -98,11 +95,7 @@ pub plain_select : IsPlain (understood the_schema SELECT_ROW.now)
 plain_select = means_select.plain
 
 pub row_found : {S : Type 0} (g : Ghosts S) (old new : Held S) (k : Kept) → IsAt g k old → (job : ℕ) (found : Option BoardRow) → ShowsRecords (λ row x. row ≡ board_row x) g SELECT_ROW.now (number job ∷ []) old new (listed found) → found ≡ row_at job k.board
-row_found g old new k at job found h =
-    found_one (λ row x. row ≡ board_row x) board_row (λ x. x.job == job) k.board (λ x y _ same. sym (same_row y x same)) h.rows
-    (shows_passing board_row 9 board refl SELECT_ROW.now (is 0 0 ∷ []) (number job ∷ []) (λ im. equal Binary (column im 0) (number job) && true) (λ r. refl) (λ x. x.job == job) (λ x. finds_number x.job job) k k.board refl h.rows
-    (λ r. refl) means_select (state g old) (state g new) at.now h.shown)
-    found h.read
+row_found g old new k at job = one_found g old new (λ row x. row ≡ board_row x) board_row 9 board refl (λ key r. refl) k k.board refl (λ x y _ same. sym (same_row y x same)) at.now SELECT_ROW.now (is 0 0 ∷ []) (number job ∷ []) means_select (λ im. equal Binary (column im 0) (number job) && true) (λ r. refl) (λ x. x.job == job) (λ x. finds_number x.job job)
 
 means_select_within : MeansSelect the_schema board SELECT_ROWS_WITHIN.now (at_least 0 0 ∷ at_most 0 1 ∷ []) (columns_of board) (by 0) (names_of board)
 unfolding understood everything

@@ -97,114 +97,44 @@ schema_after k =
 abbrev pub text_at : ℕ → List ℕ
 text_at k = slice_index_or (map (λ t. t.now) SCHEMA) k []
 
-makes_meta : MeansTable (schema_after 0) (schema_after 1) (text_at 0) (record table.meta { tree = 0 })
-unfolding understood everything
-makes_meta = record { command = refl; plain = (refl, refl); whole = refl; defined = refl; is = refl; uncounted = refl }
-
-makes_project : MeansTable (schema_after 1) (schema_after 2) (text_at 1) (record table.project { tree = 0 })
-unfolding understood everything
-makes_project = record { command = refl; plain = (refl, refl); whole = refl; defined = refl; is = refl; uncounted = refl }
-
-makes_runner : MeansTable (schema_after 2) (schema_after 3) (text_at 2) (record table.runner { tree = 0 })
-unfolding understood everything
-makes_runner = record { command = refl; plain = (refl, refl); whole = refl; defined = refl; is = refl; uncounted = refl }
-
-makes_pipeline : MeansTable (schema_after 3) (schema_after 4) (text_at 3) (record table.pipeline { tree = 0 })
-unfolding understood everything
-makes_pipeline = record { command = refl; plain = (refl, refl); whole = refl; defined = refl; is = refl; uncounted = refl }
-
-makes_job : MeansTable (schema_after 4) (schema_after 5) (text_at 4) (record table.job { tree = 0 })
-unfolding understood everything
-makes_job = record { command = refl; plain = (refl, refl); whole = refl; defined = refl; is = refl; uncounted = refl }
-
-makes_job_pipeline : MeansIndex (schema_after 5) (schema_after 6) 4 table.job (text_at 5) (record table.job_pipeline { tree = 0 })
-unfolding understood everything
-makes_job_pipeline = record { there = refl; command = refl; plain = (refl, refl); whole = refl; defined = refl; is = refl }
-
-makes_jobvar : MeansTable (schema_after 6) (schema_after 7) (text_at 6) (record table.jobvar { tree = 0 })
-unfolding understood everything
-makes_jobvar = record { command = refl; plain = (refl, refl); whole = refl; defined = refl; is = refl; uncounted = refl }
-
-makes_attempt : MeansTable (schema_after 7) (schema_after 8) (text_at 7) (record table.attempt { tree = 0 })
-unfolding understood everything
-makes_attempt = record { command = refl; plain = (refl, refl); whole = refl; defined = refl; is = refl; uncounted = refl }
-
-makes_attempt_job : MeansIndex (schema_after 8) (schema_after 9) 6 table.attempt (text_at 8) (record table.attempt_job { tree = 0 })
-unfolding understood everything
-makes_attempt_job = record { there = refl; command = refl; plain = (refl, refl); whole = refl; defined = refl; is = refl }
-
-makes_attempt_state : MeansIndex (schema_after 9) (schema_after 10) 6 table.attempt (text_at 9) (record table.attempt_state { tree = 0 })
-unfolding understood everything
-makes_attempt_state = record { there = refl; command = refl; plain = (refl, refl); whole = refl; defined = refl; is = refl }
-
-makes_piece : MeansTable (schema_after 10) (schema_after 11) (text_at 10) (record table.piece { tree = 0 })
-unfolding understood everything
-makes_piece = record { command = refl; plain = (refl, refl); whole = refl; defined = refl; is = refl; uncounted = refl }
-
-makes_need : MeansTable (schema_after 11) (schema_after 12) (text_at 11) (record table.need { tree = 0 })
-unfolding understood everything
-makes_need = record { command = refl; plain = (refl, refl); whole = refl; defined = refl; is = refl; uncounted = refl }
-
-makes_need_pred : MeansIndex (schema_after 12) (schema_after 13) 8 table.need (text_at 12) (record table.need_pred { tree = 0 })
-unfolding understood everything
-makes_need_pred = record { there = refl; command = refl; plain = (refl, refl); whole = refl; defined = refl; is = refl }
-
-makes_board : MeansTable (schema_after 13) (schema_after 14) (text_at 13) (record table.board { tree = 0 })
-unfolding understood everything
-makes_board = record { command = refl; plain = (refl, refl); whole = refl; defined = refl; is = refl; uncounted = refl }
-
-makes_board_status : MeansIndex (schema_after 14) (schema_after 15) 9 table.board (text_at 14) (record table.board_status { tree = 0 })
-unfolding understood everything
-makes_board_status = record { there = refl; command = refl; plain = (refl, refl); whole = refl; defined = refl; is = refl }
-
-makes_variable : MeansTable (schema_after 15) (schema_after 16) (text_at 15) (record table.variable { tree = 0 })
-unfolding understood everything
-makes_variable = record { command = refl; plain = (refl, refl); whole = refl; defined = refl; is = refl; uncounted = refl }
-
-makes_holder : MeansTable (schema_after 16) (schema_after 17) (text_at 16) (record table.holder { tree = 0 })
-unfolding understood everything
-makes_holder = record { command = refl; plain = (refl, refl); whole = refl; defined = refl; is = refl; uncounted = refl }
-
-makes_holder_attempt : MeansIndex (schema_after 17) (schema_after 18) 11 table.holder (text_at 17) (record table.holder_attempt { tree = 0 })
-unfolding understood everything
-makes_holder_attempt = record { there = refl; command = refl; plain = (refl, refl); whole = refl; defined = refl; is = refl }
-
-makes_pipeline_ref : MeansIndex (schema_after 18) (schema_after 19) 3 table.pipeline (text_at 18) (record table.pipeline_ref { tree = 0 })
-unfolding understood everything
-makes_pipeline_ref = record { there = refl; command = refl; plain = (refl, refl); whole = refl; defined = refl; is = refl }
-
-makes_attempt_runner : MeansIndex (schema_after 19) (schema_after 20) 6 table.attempt (text_at 19) (record table.attempt_runner { tree = 0 })
-unfolding understood everything
-makes_attempt_runner = record { there = refl; command = refl; plain = (refl, refl); whole = refl; defined = refl; is = refl }
-
-makes_pipeline_created : MeansIndex (schema_after 20) (schema_after 21) 3 table.pipeline (text_at 20) (record table.pipeline_created { tree = 0 })
-unfolding understood everything
-makes_pipeline_created = record { there = refl; command = refl; plain = (refl, refl); whole = refl; defined = refl; is = refl }
-
 -- after each text the schema is that of one text more
-makes_next : (k : ℕ) → k < 21 → (old new : State) (count : ℕ) → IsBare (schema_after k) old.now → Executes (text_at k) [] old new (Ok count) → IsBare (schema_after (k + 1)) new.now
-makes_next zero low = creates_table (schema_after 0) (schema_after 1) (text_at 0) _ makes_meta
-makes_next (suc zero) low = creates_table (schema_after 1) (schema_after 2) (text_at 1) _ makes_project
-makes_next (suc (suc zero)) low = creates_table (schema_after 2) (schema_after 3) (text_at 2) _ makes_runner
-makes_next (suc (suc (suc zero))) low = creates_table (schema_after 3) (schema_after 4) (text_at 3) _ makes_pipeline
-makes_next (suc (suc (suc (suc zero)))) low = creates_table (schema_after 4) (schema_after 5) (text_at 4) _ makes_job
-makes_next (suc (suc (suc (suc (suc zero))))) low = creates_index (schema_after 5) (schema_after 6) 4 table.job (text_at 5) _ makes_job_pipeline
-makes_next (suc (suc (suc (suc (suc (suc zero)))))) low = creates_table (schema_after 6) (schema_after 7) (text_at 6) _ makes_jobvar
-makes_next (suc (suc (suc (suc (suc (suc (suc zero))))))) low = creates_table (schema_after 7) (schema_after 8) (text_at 7) _ makes_attempt
-makes_next (suc (suc (suc (suc (suc (suc (suc (suc zero)))))))) low = creates_index (schema_after 8) (schema_after 9) 6 table.attempt (text_at 8) _ makes_attempt_job
-makes_next (suc (suc (suc (suc (suc (suc (suc (suc (suc zero))))))))) low = creates_index (schema_after 9) (schema_after 10) 6 table.attempt (text_at 9) _ makes_attempt_state
-makes_next (suc (suc (suc (suc (suc (suc (suc (suc (suc (suc zero)))))))))) low = creates_table (schema_after 10) (schema_after 11) (text_at 10) _ makes_piece
-makes_next (suc (suc (suc (suc (suc (suc (suc (suc (suc (suc (suc zero))))))))))) low = creates_table (schema_after 11) (schema_after 12) (text_at 11) _ makes_need
-makes_next (suc (suc (suc (suc (suc (suc (suc (suc (suc (suc (suc (suc zero)))))))))))) low = creates_index (schema_after 12) (schema_after 13) 8 table.need (text_at 12) _ makes_need_pred
-makes_next (suc (suc (suc (suc (suc (suc (suc (suc (suc (suc (suc (suc (suc zero))))))))))))) low = creates_table (schema_after 13) (schema_after 14) (text_at 13) _ makes_board
-makes_next (suc (suc (suc (suc (suc (suc (suc (suc (suc (suc (suc (suc (suc (suc zero)))))))))))))) low = creates_index (schema_after 14) (schema_after 15) 9 table.board (text_at 14) _ makes_board_status
-makes_next (suc (suc (suc (suc (suc (suc (suc (suc (suc (suc (suc (suc (suc (suc (suc zero))))))))))))))) low = creates_table (schema_after 15) (schema_after 16) (text_at 15) _ makes_variable
-makes_next (suc (suc (suc (suc (suc (suc (suc (suc (suc (suc (suc (suc (suc (suc (suc (suc zero)))))))))))))))) low = creates_table (schema_after 16) (schema_after 17) (text_at 16) _ makes_holder
-makes_next (suc (suc (suc (suc (suc (suc (suc (suc (suc (suc (suc (suc (suc (suc (suc (suc (suc zero))))))))))))))))) low = creates_index (schema_after 17) (schema_after 18) 11 table.holder (text_at 17) _ makes_holder_attempt
-makes_next (suc (suc (suc (suc (suc (suc (suc (suc (suc (suc (suc (suc (suc (suc (suc (suc (suc (suc zero)))))))))))))))))) low = creates_index (schema_after 18) (schema_after 19) 3 table.pipeline (text_at 18) _ makes_pipeline_ref
-makes_next (suc (suc (suc (suc (suc (suc (suc (suc (suc (suc (suc (suc (suc (suc (suc (suc (suc (suc (suc zero))))))))))))))))))) low = creates_index (schema_after 19) (schema_after 20) 6 table.attempt (text_at 19) _ makes_attempt_runner
-makes_next (suc (suc (suc (suc (suc (suc (suc (suc (suc (suc (suc (suc (suc (suc (suc (suc (suc (suc (suc (suc zero)))))))))))))))))))) low = creates_index (schema_after 20) (schema_after 21) 3 table.pipeline (text_at 20) _ makes_pipeline_created
-makes_next (suc (suc (suc (suc (suc (suc (suc (suc (suc (suc (suc (suc (suc (suc (suc (suc (suc (suc (suc (suc (suc k))))))))))))))))))))) low = absurd (omega (arith, low))
+abbrev RunsNext : ℕ → Type 1
+RunsNext k = (old new : State) (count : ℕ) → IsBare (schema_after k) old.now → Executes (text_at k) [] old new (Ok count) → IsBare (schema_after (k + 1)) new.now
+
+by_table : (k : ℕ) (table : Table) → MeansTable (schema_after k) (schema_after (k + 1)) (text_at k) (record table { tree = 0 }) → RunsNext k
+by_table k table = creates_table (schema_after k) (schema_after (k + 1)) (text_at k) (record table { tree = 0 })
+
+by_index : (k at : ℕ) (table : Table) (index : Index) → MeansIndex (schema_after k) (schema_after (k + 1)) at table (text_at k) (record index { tree = 0 }) → RunsNext k
+by_index k at table index = creates_index (schema_after k) (schema_after (k + 1)) at table (text_at k) (record index { tree = 0 })
+
+-- each text is understood as what makes its table or its index, which `refl` finds
+all_run : (k : ℕ) → k < 21 → RunsNext k
+unfolding understood everything
+all_run zero low = by_table 0 table.meta (record { command = refl; plain = (refl, refl); whole = refl; defined = refl; is = refl; uncounted = refl })
+all_run (suc zero) low = by_table 1 table.project (record { command = refl; plain = (refl, refl); whole = refl; defined = refl; is = refl; uncounted = refl })
+all_run (suc (suc zero)) low = by_table 2 table.runner (record { command = refl; plain = (refl, refl); whole = refl; defined = refl; is = refl; uncounted = refl })
+all_run (suc (suc (suc zero))) low = by_table 3 table.pipeline (record { command = refl; plain = (refl, refl); whole = refl; defined = refl; is = refl; uncounted = refl })
+all_run (suc (suc (suc (suc zero)))) low = by_table 4 table.job (record { command = refl; plain = (refl, refl); whole = refl; defined = refl; is = refl; uncounted = refl })
+all_run (suc (suc (suc (suc (suc zero))))) low = by_index 5 4 table.job table.job_pipeline (record { there = refl; command = refl; plain = (refl, refl); whole = refl; defined = refl; is = refl })
+all_run (suc (suc (suc (suc (suc (suc zero)))))) low = by_table 6 table.jobvar (record { command = refl; plain = (refl, refl); whole = refl; defined = refl; is = refl; uncounted = refl })
+all_run (suc (suc (suc (suc (suc (suc (suc zero))))))) low = by_table 7 table.attempt (record { command = refl; plain = (refl, refl); whole = refl; defined = refl; is = refl; uncounted = refl })
+all_run (suc (suc (suc (suc (suc (suc (suc (suc zero)))))))) low = by_index 8 6 table.attempt table.attempt_job (record { there = refl; command = refl; plain = (refl, refl); whole = refl; defined = refl; is = refl })
+all_run (suc (suc (suc (suc (suc (suc (suc (suc (suc zero))))))))) low = by_index 9 6 table.attempt table.attempt_state (record { there = refl; command = refl; plain = (refl, refl); whole = refl; defined = refl; is = refl })
+all_run (suc (suc (suc (suc (suc (suc (suc (suc (suc (suc zero)))))))))) low = by_table 10 table.piece (record { command = refl; plain = (refl, refl); whole = refl; defined = refl; is = refl; uncounted = refl })
+all_run (suc (suc (suc (suc (suc (suc (suc (suc (suc (suc (suc zero))))))))))) low = by_table 11 table.need (record { command = refl; plain = (refl, refl); whole = refl; defined = refl; is = refl; uncounted = refl })
+all_run (suc (suc (suc (suc (suc (suc (suc (suc (suc (suc (suc (suc zero)))))))))))) low = by_index 12 8 table.need table.need_pred (record { there = refl; command = refl; plain = (refl, refl); whole = refl; defined = refl; is = refl })
+all_run (suc (suc (suc (suc (suc (suc (suc (suc (suc (suc (suc (suc (suc zero))))))))))))) low = by_table 13 table.board (record { command = refl; plain = (refl, refl); whole = refl; defined = refl; is = refl; uncounted = refl })
+all_run (suc (suc (suc (suc (suc (suc (suc (suc (suc (suc (suc (suc (suc (suc zero)))))))))))))) low = by_index 14 9 table.board table.board_status (record { there = refl; command = refl; plain = (refl, refl); whole = refl; defined = refl; is = refl })
+all_run (suc (suc (suc (suc (suc (suc (suc (suc (suc (suc (suc (suc (suc (suc (suc zero))))))))))))))) low = by_table 15 table.variable (record { command = refl; plain = (refl, refl); whole = refl; defined = refl; is = refl; uncounted = refl })
+all_run (suc (suc (suc (suc (suc (suc (suc (suc (suc (suc (suc (suc (suc (suc (suc (suc zero)))))))))))))))) low = by_table 16 table.holder (record { command = refl; plain = (refl, refl); whole = refl; defined = refl; is = refl; uncounted = refl })
+all_run (suc (suc (suc (suc (suc (suc (suc (suc (suc (suc (suc (suc (suc (suc (suc (suc (suc zero))))))))))))))))) low = by_index 17 11 table.holder table.holder_attempt (record { there = refl; command = refl; plain = (refl, refl); whole = refl; defined = refl; is = refl })
+all_run (suc (suc (suc (suc (suc (suc (suc (suc (suc (suc (suc (suc (suc (suc (suc (suc (suc (suc zero)))))))))))))))))) low = by_index 18 3 table.pipeline table.pipeline_ref (record { there = refl; command = refl; plain = (refl, refl); whole = refl; defined = refl; is = refl })
+all_run (suc (suc (suc (suc (suc (suc (suc (suc (suc (suc (suc (suc (suc (suc (suc (suc (suc (suc (suc zero))))))))))))))))))) low = by_index 19 6 table.attempt table.attempt_runner (record { there = refl; command = refl; plain = (refl, refl); whole = refl; defined = refl; is = refl })
+all_run (suc (suc (suc (suc (suc (suc (suc (suc (suc (suc (suc (suc (suc (suc (suc (suc (suc (suc (suc (suc zero)))))))))))))))))))) low = by_index 20 3 table.pipeline table.pipeline_created (record { there = refl; command = refl; plain = (refl, refl); whole = refl; defined = refl; is = refl })
+all_run (suc (suc (suc (suc (suc (suc (suc (suc (suc (suc (suc (suc (suc (suc (suc (suc (suc (suc (suc (suc (suc k))))))))))))))))))))) low = absurd (omega (arith, low))
+
+pub runs_next : (k : ℕ) → k < 21 → (text : List ℕ) (old new : State) (count : ℕ) → IsBare (schema_after k) old.now → Executes text [] old new (Ok count) → text ≡ text_at k → IsBare (schema_after (k + 1)) new.now
+runs_next k low text old new count bare h is = all_run k low old new count bare (subst (λ t. Executes t [] old new (Ok count)) is h)
 
 -- each place below twenty-one
 pub below_twenty_one : (k : ℕ) → k < 21 → (k ≡ 0) ⊎ ((k ≡ 1) ⊎ ((k ≡ 2) ⊎ ((k ≡ 3) ⊎ ((k ≡ 4) ⊎ ((k ≡ 5) ⊎ ((k ≡ 6) ⊎ ((k ≡ 7) ⊎ ((k ≡ 8) ⊎ ((k ≡ 9) ⊎ ((k ≡ 10) ⊎ ((k ≡ 11) ⊎ ((k ≡ 12) ⊎ ((k ≡ 13) ⊎ ((k ≡ 14) ⊎ ((k ≡ 15) ⊎ ((k ≡ 16) ⊎ ((k ≡ 17) ⊎ ((k ≡ 18) ⊎ ((k ≡ 19) ⊎ (k ≡ 20))))))))))))))))))))
@@ -230,9 +160,6 @@ below_twenty_one (suc (suc (suc (suc (suc (suc (suc (suc (suc (suc (suc (suc (su
 below_twenty_one (suc (suc (suc (suc (suc (suc (suc (suc (suc (suc (suc (suc (suc (suc (suc (suc (suc (suc (suc zero))))))))))))))))))) low = inr (inr (inr (inr (inr (inr (inr (inr (inr (inr (inr (inr (inr (inr (inr (inr (inr (inr (inr (inl refl)))))))))))))))))))
 below_twenty_one (suc (suc (suc (suc (suc (suc (suc (suc (suc (suc (suc (suc (suc (suc (suc (suc (suc (suc (suc (suc zero)))))))))))))))))))) low = inr (inr (inr (inr (inr (inr (inr (inr (inr (inr (inr (inr (inr (inr (inr (inr (inr (inr (inr (inr refl)))))))))))))))))))
 below_twenty_one (suc (suc (suc (suc (suc (suc (suc (suc (suc (suc (suc (suc (suc (suc (suc (suc (suc (suc (suc (suc (suc k))))))))))))))))))))) low = absurd (omega (arith, low))
-
-pub runs_next : (k : ℕ) → k < 21 → (text : List ℕ) (old new : State) (count : ℕ) → IsBare (schema_after k) old.now → Executes text [] old new (Ok count) → text ≡ text_at k → IsBare (schema_after (k + 1)) new.now
-runs_next k low text old new count bare h is = makes_next k low old new count bare (subst (λ t. Executes t [] old new (Ok count)) is h)
 
 -- ---- what version 2 has more
 

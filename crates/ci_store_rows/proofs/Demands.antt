@@ -11,6 +11,7 @@ use Rattle.ci_store_rows.specs.Prelude.{spec_text, spec_data, ReadsDemand, SELEC
 use Rattle.ci_store_rows.specs.Prelude.{ShowsRecords, listed, FindsNumber, demand_cells, IsDemandRow}
 use Rattle.ci_store_rows.proofs.Records.{is, above, finds_number, finds_beyond}
 use Rattle.ci_store_rows.proofs.Shows.{shows_columns, found_as, found_none}
+use Rattle.ci_store_rows.proofs.Same.{number_of, text_of}
 
 -- the columns that tell it, of those of a job, and their names
 abbrev columns : List Term
@@ -29,11 +30,9 @@ demand_row j = number j.id ∷ number j.pipeline ∷ Text (spec_text j.options) 
 -- what they are read as is what the job asks
 same_demand : (d : Demand) (j : Job) (text : List ℕ) → ReadsDemand text d → read (spec_text j.options) ≡ Some (spec_data j.options) → demand_cells d text ≡ demand_row j → d ≡ demand_of j
 same_demand d j text reads back h =
-    let a : d.job ≡ j.id = cc in
-    let b : d.pipeline ≡ j.pipeline = cc in
-    let t : text ≡ spec_text j.options = cc in
-    let asks = reads j.options (ap read t ∙ back) in
-    λ i. record { job = a i; pipeline = b i; tags = asks.0 i; resource_group = asks.1 i }
+    let spec : text ≡ spec_text j.options = λ i. text_of (h i) 2 in
+    let asks = reads j.options (ap read spec ∙ back) in
+    λ i. record { job = number_of (h i) 0; pipeline = number_of (h i) 1; tags = asks.0 i; resource_group = asks.1 i }
 
 one_demand : (k : Kept) → IsRegular k → (d : Demand) (j : Job) → Has k.state.jobs j → IsDemandRow (demand_row j) d → d ≡ demand_of j
 one_demand k o d j there same = same_demand d j same.0 same.2 (all_has _ k.state.jobs j o.specs there) (sym same.1)

@@ -2,12 +2,11 @@
 use Rattle.std.proofs.Common.{◌≡◌, ◌∙◌, ◌==◌, ℕ, pos, List, [], ◌∷◌, true, refl, sym, Option, ◌&&◌, map, filter, take, drop, nat_cmp}
 use Rattle.std.specs.Cmp.Lexicographic.{slice_cmp}
 use Rattle.sqlite_value.specs.declared.keys.Collation.TheVariants.{Binary}
-use Rattle.ci_store.specs.Prelude.{is_null, equal, cast, Integer, Null, Text, Row, column, Trees, everything, understood, Ghosts, Held, state, Kept, indexed, put, holds}
+use Rattle.ci_store.specs.Prelude.{is_null, equal, cast, Integer, Null, Text, column, everything, understood, Ghosts, Held, state, Kept, indexed, put, holds}
 use Rattle.ci_store.specs.Prelude.{holder_cmp, holder_at, Holder, Free, HasPut}
 use Rattle.sqlite_keyed.proofs.ListLemmas.{ascending-filter}
 use Rattle.sqlite_rules.proofs.ListLemmas.{has_got}
-use Rattle.ci_store.proofs.Writes.{IsWholeStep, whole_if_alone}
-use Rattle.ci_store.proofs.Puts.{MeansPut, MeansRemove, GivesRecord}
+use Rattle.ci_store.proofs.Puts.{MeansPut, GivesRecord}
 use Rattle.ci_store.proofs.Absent.{absent_unique}
 use Rattle.ci_store.proofs.Scalars.{cast_int}
 use Rattle.ci_store_rows.specs.Prelude.{UPDATE_HOLDER, INSERT_HOLDER, DELETE_HOLDER, SELECT_HOLDER, SELECT_HOLDERS_IN, SELECT_HOLDERS_OF, the_schema, holder, holder_index_1}
@@ -17,8 +16,10 @@ use Rattle.ci_store_rows.proofs.Lists.{put_rises, by_both}
 use Rattle.ci_store_rows.proofs.Records.{is, put_stands, same_number, finds_named}
 use Rattle.sqlite.proofs.Callers.{IsPlain}
 use Rattle.ci_store.proofs.Selects.{MeansSelect}
-use Rattle.ci_store_rows.proofs.Owned.{tests, sets, terms, named, same_named, unnumbered, agrees, removed_owned, owned_found}
-use Rattle.ci_store_rows.proofs.Shows.{columns_of, names_of, by, rising_text, shows_passing, found_one}
+use Rattle.ci_store_rows.proofs.Owned.{tests, sets, terms, named, same_named, unnumbered, agrees, RemovesAlone, removed_owned, owned_found}
+use Rattle.ci_store_rows.proofs.Same.{number_of, text_of}
+use Rattle.ci_store_rows.proofs.Shows.{columns_of, names_of, by, rising_text}
+use Rattle.ci_store_rows.proofs.Numbered.{one_found}
 use Rattle.ci_store_rows.proofs.Removals.{Referring}
 
 means : MeansPut the_schema 11 holder UPDATE_HOLDER.now INSERT_HOLDER.now tests sets terms
@@ -45,13 +46,9 @@ holder_puts ghosts before after h k stands it =
     put_stands holder_row k.holders k (in_holders (put holder_cmp h) k) holder refl (alike k _) (regular_with_holders k _ (put_rises holder_cmp (by_both (λ (q : Holder). q.project) (λ q. q.group)) h k.holders stands.inside.regular.holders) stands.inside.regular)
     11 UPDATE_HOLDER.now INSERT_HOLDER.now tests sets terms means holder_cmp (named h.project h.group) h (gives h) (λ q. same_named h.project h.group q.project q.group) refl ghosts before after stands it
 
-means_remove : MeansRemove the_schema 11 holder DELETE_HOLDER.now tests
+removes : RemovesAlone 11 holder DELETE_HOLDER.now tests
 unfolding understood everything
-means_remove = record { there = refl; apart = refl; delete_is = refl; delete_plain = (refl, refl) }
-
-whole : (params : Row) (db : Trees) → IsWholeStep the_schema holder tests params db
-unfolding everything
-whole params db = whole_if_alone the_schema holder tests params db (λ olds. refl)
+removes = record { means = record { there = refl; apart = refl; delete_is = refl; delete_plain = (refl, refl) }; alone = λ olds. refl }
 
 -- a test of numbers and one of texts say what their orders say
 holds_is : (project : ℕ) (group : List ℕ) (h : Holder) → (equal Binary (number h.project) (number project) && (equal Binary (Text h.group) (Text group) && true)) ≡ holds project group h
@@ -60,16 +57,12 @@ holds_is project group h = finds_named h.project project h.group group
 pub holder_freed : {S : Type 0} (g : Ghosts S) (old new : Held S) (project : ℕ) (group : List ℕ) (k : Kept) → Stands k (state g old).now → RemovesUnreferred g [] DELETE_HOLDER.now (named project group) old new → Stands (indexed (Free project group) k) (state g new).now
 holder_freed g old new project group k =
     removed_owned g old new holder_row 11 holder tests (holds project group) k.holders (named project group) k (indexed (Free project group) k) refl refl (alike k _) (λ o. regular_with_holders k _ (ascending-filter _ _ k.holders o.holders) o) (holds_is project group) (λ r. refl)
-    DELETE_HOLDER.now means_remove whole
+    DELETE_HOLDER.now removes
 
 -- ---- two records with the same row
 
 same_holder : (p q : Holder) → holder_row p ≡ holder_row q → p ≡ q
-same_holder p q h =
-    let a : p.project ≡ q.project = cc in
-    let b : p.group ≡ q.group = cc in
-    let c : p.attempt ≡ q.attempt = cc in
-    λ i. record { project = a i; group = b i; attempt = c i }
+same_holder p q h = λ i. record { project = number_of (h i) 0; group = text_of (h i) 1; attempt = number_of (h i) 2 }
 
 -- ---- the queries that load
 
@@ -82,12 +75,7 @@ plain_select = means_select.plain
 
 pub holder_found : {S : Type 0} (g : Ghosts S) (old new : Held S) (k : Kept) → IsAt g k old → (project : ℕ) (group : List ℕ) (found : Option Holder) → ShowsRecords (λ row x. row ≡ holder_row x) g SELECT_HOLDER.now (number project ∷ Text group ∷ []) old new (listed found)
     → found ≡ holder_at project group k.holders
-holder_found g old new k at project group found h =
-    found_one (λ row x. row ≡ holder_row x) holder_row (holds project group) k.holders (λ x y _ same. sym (same_holder y x same)) h.rows
-    (shows_passing holder_row 11 holder refl SELECT_HOLDER.now tests (number project ∷ Text group ∷ []) (λ im. equal Binary (column im 0) (number project) && (equal Binary (column im 1) (Text group) && true)) (λ r. refl)
-    (holds project group) (holds_is project group) k k.holders refl h.rows
-    (λ r. refl) means_select (state g old) (state g new) at.now h.shown)
-    found h.read
+holder_found g old new k at project group = one_found g old new (λ row x. row ≡ holder_row x) holder_row 11 holder refl (λ key r. refl) k k.holders refl (λ x y _ same. sym (same_holder y x same)) at.now SELECT_HOLDER.now tests (number project ∷ Text group ∷ []) means_select (λ im. equal Binary (column im 0) (number project) && (equal Binary (column im 1) (Text group) && true)) (λ r. refl) (holds project group) (holds_is project group)
 
 -- ---- the groups of a project that are held
 

@@ -2,11 +2,10 @@
 use Rattle.std.proofs.Common.{◌≡◌, ◌∙◌, ℕ, pos, List, [], ◌∷◌, is_eq, refl, inl, inr, map, take, drop, nat_cmp}
 use Rattle.std.specs.Ordering.{ordering_then}
 use Rattle.std.specs.Cmp.Lexicographic.{slice_cmp}
-use Rattle.ci_store.specs.Prelude.{is_null, cast, Integer, Null, Text, Row, Term, Trees, everything, understood, Ghosts, Held, state, Kept, with_record, without_record}
+use Rattle.ci_store.specs.Prelude.{is_null, cast, Integer, Null, Text, everything, understood, Ghosts, Held, state, Kept, with_record, without_record}
 use Rattle.ci_store.specs.Prelude.{job_variable_cmp, JobVariable, Record, Key, HasPut, variables_of}
 use Rattle.sqlite_keyed.proofs.ListLemmas.{ascending-filter}
-use Rattle.ci_store.proofs.Writes.{IsWholeStep, whole_if_alone}
-use Rattle.ci_store.proofs.Puts.{MeansPut, MeansRemove, GivesRecord}
+use Rattle.ci_store.proofs.Puts.{MeansPut, GivesRecord}
 use Rattle.ci_store.proofs.Absent.{absent_unique}
 use Rattle.ci_store.proofs.Scalars.{cast_int}
 use Rattle.ci_store_rows.specs.Prelude.{UPDATE_JOB_VARIABLE, INSERT_JOB_VARIABLE, DELETE_JOB_VARIABLE, DELETE_JOB_VARIABLES, SELECT_JOB_VARIABLES, the_schema, jobvar}
@@ -16,7 +15,8 @@ use Rattle.ci_store_rows.proofs.Lists.{put_rises, by_both}
 use Rattle.ci_store_rows.proofs.Records.{is, put_stands, same_number}
 use Rattle.sqlite.proofs.Callers.{IsPlain}
 use Rattle.ci_store.proofs.Selects.{MeansSelect}
-use Rattle.ci_store_rows.proofs.Owned.{tests, sets, terms, named, same_named, unnumbered, agrees, removed_owned, owned_found}
+use Rattle.ci_store_rows.proofs.Owned.{tests, sets, terms, named, same_named, unnumbered, agrees, RemovesAlone, removed_owned, owned_found}
+use Rattle.ci_store_rows.proofs.Same.{number_of, text_of}
 use Rattle.ci_store_rows.proofs.Shows.{columns_of, names_of, by, rising_text}
 use Rattle.ci_store_rows.proofs.Removals.{Referring}
 
@@ -44,37 +44,29 @@ job_variable_puts ghosts before after v k stands h =
     put_stands job_variable_row k.state.job_variables k (in_state (with_record (Record.JobVariable v)) k) jobvar refl (alike k _) (regular_with_job_variables k _ (put_rises job_variable_cmp (by_both (λ (q : JobVariable). q.job) (λ q. q.key)) v k.state.job_variables stands.inside.regular.job_variables) stands.inside.regular)
     5 UPDATE_JOB_VARIABLE.now INSERT_JOB_VARIABLE.now tests sets terms means job_variable_cmp (named v.job v.key) v (gives v) (λ q. same_named v.job v.key q.job q.key) refl ghosts before after stands h
 
-means_remove : MeansRemove the_schema 5 jobvar DELETE_JOB_VARIABLE.now tests
+removes : RemovesAlone 5 jobvar DELETE_JOB_VARIABLE.now tests
 unfolding understood everything
-means_remove = record { there = refl; apart = refl; delete_is = refl; delete_plain = (refl, refl) }
-
-whole : (asked : List Term) (params : Row) (db : Trees) → IsWholeStep the_schema jobvar asked params db
-unfolding everything
-whole asked params db = whole_if_alone the_schema jobvar asked params db (λ olds. refl)
+removes = record { means = record { there = refl; apart = refl; delete_is = refl; delete_plain = (refl, refl) }; alone = λ olds. refl }
 
 pub job_variable_removed : {S : Type 0} (g : Ghosts S) (old new : Held S) (id : ℕ) (name : List ℕ) (k : Kept) → Stands k (state g old).now → RemovesUnreferred g [] DELETE_JOB_VARIABLE.now (named id name) old new → Stands (in_state (without_record (Key.JobVariable id name)) k) (state g new).now
 job_variable_removed g old new id name k =
     removed_owned g old new job_variable_row 5 jobvar tests (λ q. is_eq (ordering_then (nat_cmp q.job id) (slice_cmp nat_cmp q.key name))) k.state.job_variables (named id name) k (in_state (without_record (Key.JobVariable id name)) k) refl refl (alike k _) (λ o. regular_with_job_variables k _ (ascending-filter _ _ k.state.job_variables o.job_variables) o) (λ q. same_named id name q.job q.key) (λ r. refl)
-    DELETE_JOB_VARIABLE.now means_remove (whole tests)
+    DELETE_JOB_VARIABLE.now removes
 
 -- all variables of a job
-means_remove_all : MeansRemove the_schema 5 jobvar DELETE_JOB_VARIABLES.now (is 1 0 ∷ [])
+removes_all : RemovesAlone 5 jobvar DELETE_JOB_VARIABLES.now (is 1 0 ∷ [])
 unfolding understood everything
-means_remove_all = record { there = refl; apart = refl; delete_is = refl; delete_plain = (refl, refl) }
+removes_all = record { means = record { there = refl; apart = refl; delete_is = refl; delete_plain = (refl, refl) }; alone = λ olds. refl }
 
 pub job_variables_removed : {S : Type 0} (g : Ghosts S) (old new : Held S) (job : ℕ) (k : Kept) → Stands k (state g old).now → RemovesUnreferred g [] DELETE_JOB_VARIABLES.now (number job ∷ []) old new → Stands (in_state (without_record (Key.JobVariables job)) k) (state g new).now
 job_variables_removed g old new job k =
     removed_owned g old new job_variable_row 5 jobvar (is 1 0 ∷ []) (λ q. is_eq (nat_cmp q.job job)) k.state.job_variables (number job ∷ []) k (in_state (without_record (Key.JobVariables job)) k) refl refl (alike k _) (λ o. regular_with_job_variables k _ (ascending-filter _ _ k.state.job_variables o.job_variables) o) (λ q. same_number q.job job) (λ r. refl)
-    DELETE_JOB_VARIABLES.now means_remove_all (whole (is 1 0 ∷ []))
+    DELETE_JOB_VARIABLES.now removes_all
 
 -- ---- two records with the same row
 
 same_job_variable : (p q : JobVariable) → job_variable_row p ≡ job_variable_row q → p ≡ q
-same_job_variable p q h =
-    let a : p.job ≡ q.job = cc in
-    let b : p.key ≡ q.key = cc in
-    let c : p.value ≡ q.value = cc in
-    λ i. record { job = a i; key = b i; value = c i }
+same_job_variable p q h = λ i. record { job = number_of (h i) 0; key = text_of (h i) 1; value = text_of (h i) 2 }
 
 -- ---- the queries that load
 

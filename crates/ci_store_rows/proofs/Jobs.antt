@@ -1,31 +1,32 @@
 -- The statements that write `job`.
-use Rattle.std.proofs.Common.{◌≡◌, ◌∙◌, ℕ, pos, List, [], ◌∷◌, ◌++◌, if◌then◌else◌, cond, Some, None, refl, ap, ◌==◌, ◌&&◌, true, Option, sym, map, take, drop, codes, inl, inr, nat_lt}
-use Rattle.ci_store.specs.Prelude.{Null, Text, Row, column, Term, lit, col, everything, understood, Ghosts, Held, state, Gt, Kept, with_record, without_record, job_cmp, Job}
+use Rattle.std.proofs.Common.{◌≡◌, ◌∙◌, ℕ, pos, List, [], ◌∷◌, ◌++◌, if◌then◌else◌, cond, Some, None, refl, ap, ◌==◌, ◌&&◌, true, Option, sym, map, take, drop, codes}
+use Rattle.ci_store.specs.Prelude.{Null, Text, Row, column, Term, lit, col, everything, understood, Ghosts, Held, state, Kept, with_record, without_record, job_cmp, Job}
 use Rattle.ci_store.specs.Prelude.{Record, Key, image, places, HasPut, jobs_of, job_at, equal, Has, plain, joined, Enforced, Work, works, pairs, loses}
 use Rattle.sqlite_keyed.proofs.ListLemmas.{ascending-filter, all-filter}
 use Rattle.ci_store.proofs.Puts.{MeansPut, MeansRemove, GivesRecord}
 use Rattle.ci_store.proofs.Absent.{absent_rowid}
 use Rattle.ci_store.proofs.Childless.{cascade}
-use Rattle.ci_store.proofs.Scalars.{cast_int, compares}
-use Rattle.ci_store_rows.specs.Prelude.{UPDATE_JOB, INSERT_JOB, DELETE_JOB, SELECT_JOB, SELECT_JOBS_OF, SELECT_JOBS_ABOVE, LAST_INTEGER, the_schema, job, need, spec_text}
-use Rattle.ci_store_rows.specs.Prelude.{spec_data, number, job_row, rows_by_tree, rows_of, IsRegular, Stands, IsAt, ShowsRecords, listed, FindsNumber, IsJobRow, in_state}
-use Rattle.ci_store_rows.specs.Prelude.{RemovesUnreferred, flag, job_cells, ReadsSpec}
+use Rattle.ci_store.proofs.Scalars.{cast_int}
+use Rattle.ci_store_rows.specs.Prelude.{UPDATE_JOB, INSERT_JOB, DELETE_JOB, SELECT_JOB, SELECT_JOBS_OF, SELECT_JOBS_ABOVE, the_schema, job, need, spec_text}
+use Rattle.ci_store_rows.specs.Prelude.{spec_data, number, job_row, rows_by_tree, rows_of, IsRegular, Stands, IsAt, ShowsRecords, FindsNumber, IsJobRow, in_state}
+use Rattle.ci_store_rows.specs.Prelude.{RemovesUnreferred, job_cells, ReadsSpec}
 use Rattle.serde_json.specs.Read.{read}
 use Rattle.ci_store_rows.proofs.OneList.{IsAlike, alike_but, regular_with_jobs}
 use Rattle.ci_store_rows.proofs.Lists.{put_rises, by_number, all_put}
-use Rattle.ci_store_rows.proofs.Records.{is, put_stands, same_number, finds_number, numbered, above, finds_beyond}
+use Rattle.ci_store_rows.proofs.Records.{is, put_stands, same_number, finds_number, numbered}
 use Rattle.sqlite.specs.Collation.TheVariants.{Binary}
 use Rattle.sqlite.proofs.Callers.{IsPlain}
 use Rattle.ci_store.proofs.Selects.{MeansSelect}
 use Rattle.sqlite_rules.proofs.ListLemmas.{all_has}
-use Rattle.ci_store_rows.proofs.Shows.{columns_of, names_of, by, shows_passing, shows_sorted, found_one, found_all, rising_numbers, found_none}
+use Rattle.ci_store_rows.proofs.Shows.{columns_of, names_of, by, shows_sorted, found_all, rising_numbers}
+use Rattle.ci_store_rows.proofs.Numbered.{MeansNumbered, numbered_found}
 use Rattle.std.specs.List.{list_any, cons_option}
 use Rattle.ci_store_rows.proofs.Removals.{Referring, queries, cascades, twice, removed_numbered}
 use Rattle.ci_store_rows.proofs.JobVariables.{refers_to_job as variables_refer}
 use Rattle.ci_store_rows.proofs.Attempts.{refers_to_job as attempts_refer}
 use Rattle.ci_store_rows.proofs.Needs.{needs_refer, needed_refer}
 use Rattle.ci_store_rows.proofs.Board.{rows_refer}
-use Rattle.ci_store_rows.proofs.Same.{same_flag}
+use Rattle.ci_store_rows.proofs.Same.{number_of, text_of, same_flag}
 
 abbrev sets : List Term
 sets = col 0 0 ∷ lit Null ∷ col 0 1 ∷ col 0 2 ∷ col 0 3 ∷ col 0 4 ∷ col 0 5 ∷ col 0 6 ∷ col 0 7 ∷ col 0 8 ∷ []
@@ -74,17 +75,9 @@ job_removed g old new id k =
 
 same_job : (j q : Job) (spec : List ℕ) → ReadsSpec spec j.options → read (spec_text q.options) ≡ Some (spec_data q.options) → job_cells j spec ≡ job_row q → j ≡ q
 same_job j q spec reads spec_back h =
-    let a : j.id ≡ q.id = cc in
-    let b : j.pipeline ≡ q.pipeline = cc in
-    let c : j.position ≡ q.position = cc in
-    let d : j.name ≡ q.name = cc in
-    let e : j.stage ≡ q.stage = cc in
-    let t : spec ≡ spec_text q.options = cc in
-    let u : flag j.played ≡ flag q.played = cc in
-    let v : flag j.cancelled ≡ flag q.cancelled = cc in
-    let w : j.set_aside ≡ q.set_aside = cc in
-    let options : j.options ≡ q.options = reads q.options (ap read t ∙ spec_back) in
-    λ i. record { id = a i; pipeline = b i; position = c i; name = d i; stage = e i; options = options i; played = same_flag j.played q.played u i; cancelled = same_flag j.cancelled q.cancelled v i; set_aside = w i }
+    let text : spec ≡ spec_text q.options = λ i. text_of (h i) 5 in
+    let options = reads q.options (ap read text ∙ spec_back) in
+    λ i. record { id = number_of (h i) 0; pipeline = number_of (h i) 1; position = number_of (h i) 2; name = text_of (h i) 3; stage = text_of (h i) 4; options = options i; played = same_flag j.played q.played (λ e. column (h e) 6) i; cancelled = same_flag j.cancelled q.cancelled (λ e. column (h e) 7) i; set_aside = number_of (h i) 8 }
 
 -- a row that a job of the state has is read as that job
 one_job : (k : Kept) → IsRegular k → (j q : Job) → Has k.state.jobs q → IsJobRow (job_row q) j → j ≡ q
@@ -92,35 +85,18 @@ one_job k o j q there same = same_job j q same.0 same.2 (all_has _ k.state.jobs 
 
 -- ---- the queries that load
 
-means_select : MeansSelect the_schema job SELECT_JOB.now (is 0 0 ∷ []) (columns_of job) [] (names_of job)
+means_numbered : MeansNumbered job SELECT_JOB.now SELECT_JOBS_ABOVE.now
 unfolding understood everything
-means_select = record { is = refl; unlisted = refl; plain = (refl, refl) }
+means_numbered = record { at_number = record { is = refl; unlisted = refl; plain = (refl, refl) }; over_it = record { is = refl; unlisted = refl; plain = (refl, refl) } }
 
 pub plain_select : IsPlain (understood the_schema SELECT_JOB.now)
-plain_select = means_select.plain
-
-pub job_found : {S : Type 0} (g : Ghosts S) (old new : Held S) (k : Kept) → IsAt g k old → (id : ℕ) (found : Option Job) → ShowsRecords IsJobRow g SELECT_JOB.now (number id ∷ []) old new (listed found) → found ≡ job_at k.state id
-job_found g old new k at id found h =
-    found_one IsJobRow job_row (λ x. x.id == id) k.state.jobs (one_job k at.now.inside.regular) h.rows
-    (shows_passing job_row 4 job refl SELECT_JOB.now (is 0 0 ∷ []) (number id ∷ []) (λ im. equal Binary (column im 0) (number id) && true) (λ r. refl) (λ x. x.id == id) (λ x. finds_number x.id id) k k.state.jobs refl h.rows
-    (λ r. refl) means_select (state g old) (state g new) at.now h.shown)
-    found h.read
-
-means_select_above : MeansSelect the_schema job SELECT_JOBS_ABOVE.now (above 0 0 ∷ []) (columns_of job) [] (names_of job)
-unfolding understood everything
-means_select_above = record { is = refl; unlisted = refl; plain = (refl, refl) }
+plain_select = means_numbered.at_number.plain
 
 pub plain_select_above : IsPlain (understood the_schema SELECT_JOBS_ABOVE.now)
-plain_select_above = means_select_above.plain
+plain_select_above = means_numbered.over_it.plain
 
 pub job_named : {S : Type 0} (g : Ghosts S) (old new : Held S) (k : Kept) → IsAt g k old → (id : ℕ) (found : Option Job) → FindsNumber IsJobRow g SELECT_JOB.now SELECT_JOBS_ABOVE.now id old new found → found ≡ job_at k.state id
-job_named g old new k at id found (inl h) = job_found g old new k at id found h
-job_named g old new k at id found (inr h) =
-    h.0
-    ∙ sym (found_none (λ (x : Job). x.id) LAST_INTEGER id h.1 IsJobRow job_row k.state.jobs h.2.rows
-    (shows_passing job_row 4 job refl SELECT_JOBS_ABOVE.now (above 0 0 ∷ []) (number LAST_INTEGER ∷ []) (λ im. compares Gt (column im 0) (number LAST_INTEGER) && true) (λ r. refl) (λ x. nat_lt LAST_INTEGER x.id) (λ x. finds_beyond LAST_INTEGER x.id) k k.state.jobs refl h.2.rows
-    (λ r. refl) means_select_above (state g old) (state g new) at.now h.2.shown)
-    h.2.read)
+job_named g old new k at = numbered_found g old new IsJobRow job_row 4 job refl (λ key r. refl) k k.state.jobs refl (one_job k at.now.inside.regular) at.now (λ x. x.id) (λ x. refl) (λ n r. refl) (λ n r. refl) SELECT_JOB.now SELECT_JOBS_ABOVE.now means_numbered
 
 pub means_select_of : MeansSelect the_schema job SELECT_JOBS_OF.now (is 2 0 ∷ []) (columns_of job) (by 0) (names_of job)
 unfolding understood everything

@@ -21,6 +21,7 @@ pub mod Fills
 pub mod Removals
 pub mod Reading
 pub mod Shows
+pub mod Numbered
 pub mod Owned
 pub mod Same
 pub mod NextLoads

@@ -3,13 +3,12 @@ use Rattle.std.proofs.Common.{◌≡◌, ◌∙◌, ℕ, pos, List, [], ◌∷�
 use Rattle.std.specs.Ordering.{ordering_then}
 use Rattle.std.specs.Cmp.Lexicographic.{slice_cmp}
 use Rattle.sqlite_value.specs.declared.keys.Collation.TheVariants.{Binary}
-use Rattle.ci_store.specs.Prelude.{is_null, equal, cast, Integer, Null, Text, Row, column, Trees, everything, understood, Ghosts, Held, state, Kept, with_record, without_record}
+use Rattle.ci_store.specs.Prelude.{is_null, equal, cast, Integer, Null, Text, column, everything, understood, Ghosts, Held, state, Kept, with_record, without_record}
 use Rattle.ci_store.specs.Prelude.{mode_cmp, is_mode_of, mode_at, GroupMode, GroupOrder, OldestFirst, NewestReadyFirst, Record, Key, HasPut}
 use Rattle.sqlite_keyed.proofs.ListLemmas.{ascending-filter, ascending_weaker}
 use Rattle.sqlite_rules.proofs.ListLemmas.{has_got}
 use Rattle.ci_store.proofs.Queries.{no_limit}
-use Rattle.ci_store.proofs.Writes.{IsWholeStep, whole_if_alone}
-use Rattle.ci_store.proofs.Puts.{MeansPut, MeansRemove, GivesRecord}
+use Rattle.ci_store.proofs.Puts.{MeansPut, GivesRecord}
 use Rattle.ci_store.proofs.Absent.{absent_unique}
 use Rattle.ci_store.proofs.Scalars.{cast_int}
 use Rattle.ci_store_rows.specs.Prelude.{UPDATE_MODE, INSERT_MODE, DELETE_MODE, SELECT_MODE, SELECT_MODES, the_schema, mode, mode_index_1, number, order_number, mode_row}
@@ -19,8 +18,10 @@ use Rattle.ci_store_rows.proofs.Lists.{put_rises, by_both}
 use Rattle.ci_store_rows.proofs.Records.{put_stands, finds_named}
 use Rattle.sqlite.proofs.Callers.{IsPlain}
 use Rattle.ci_store.proofs.Selects.{MeansSelect}
-use Rattle.ci_store_rows.proofs.Owned.{tests, sets, terms, named, same_named, unnumbered, agrees, removed_owned}
-use Rattle.ci_store_rows.proofs.Shows.{columns_of, names_of, by_two, by_two_total, pair_of_two, shows_passing, shows_ordered, found_one, found_all, rising_named, every}
+use Rattle.ci_store_rows.proofs.Owned.{tests, sets, terms, named, same_named, unnumbered, agrees, RemovesAlone, removed_owned}
+use Rattle.ci_store_rows.proofs.Same.{number_of, text_of}
+use Rattle.ci_store_rows.proofs.Shows.{columns_of, names_of, by_two, by_two_total, pair_of_two, shows_ordered, found_all, rising_named, every}
+use Rattle.ci_store_rows.proofs.Numbered.{one_found}
 
 means : MeansPut the_schema 12 mode UPDATE_MODE.now INSERT_MODE.now tests sets terms
 unfolding understood everything
@@ -43,21 +44,15 @@ alike k xs = alike_but (take 12 (rows_by_tree k)) (drop 13 (rows_by_tree k)) mod
 pub mode_puts : {S : Type 0} (ghosts : Ghosts S) (before after : Held S) (m : GroupMode) (k : Kept) → Stands k (state ghosts before).now → HasPut ghosts UPDATE_MODE.now INSERT_MODE.now (mode_row m) before after
     → Stands (in_state (with_record (Record.Mode m)) k) (state ghosts after).now
 mode_puts ghosts before after m k stands h =
-    put_stands mode_row k.state.modes k (in_state (with_record (Record.Mode m)) k) mode refl (alike k _) (regular_with_modes k _ (put_rises mode_cmp (by_both (λ (q : GroupMode). q.project) (λ q. q.group)) m k.state.modes stands.inside.regular.modes) stands.inside.regular)
-    12 UPDATE_MODE.now INSERT_MODE.now tests sets terms means mode_cmp (named m.project m.group) m (gives m) (λ q. same_named m.project m.group q.project q.group) refl ghosts before after stands h
+    put_stands mode_row k.state.modes k (in_state (with_record (Record.Mode m)) k) mode refl (alike k _) (regular_with_modes k _ (put_rises mode_cmp (by_both (λ (q : GroupMode). q.project) (λ q. q.group)) m k.state.modes stands.inside.regular.modes) stands.inside.regular) 12 UPDATE_MODE.now INSERT_MODE.now tests sets terms means mode_cmp (named m.project m.group) m (gives m) (λ q. same_named m.project m.group q.project q.group) refl ghosts before after stands h
 
-means_remove : MeansRemove the_schema 12 mode DELETE_MODE.now tests
+removes : RemovesAlone 12 mode DELETE_MODE.now tests
 unfolding understood everything
-means_remove = record { there = refl; apart = refl; delete_is = refl; delete_plain = (refl, refl) }
-
-whole : (params : Row) (db : Trees) → IsWholeStep the_schema mode tests params db
-unfolding everything
-whole params db = whole_if_alone the_schema mode tests params db (λ olds. refl)
+removes = record { means = record { there = refl; apart = refl; delete_is = refl; delete_plain = (refl, refl) }; alone = λ olds. refl }
 
 pub mode_removed : {S : Type 0} (g : Ghosts S) (old new : Held S) (project : ℕ) (group : List ℕ) (k : Kept) → Stands k (state g old).now → RemovesUnreferred g [] DELETE_MODE.now (named project group) old new → Stands (in_state (without_record (Key.Mode project group)) k) (state g new).now
 mode_removed g old new project group k =
-    removed_owned g old new mode_row 12 mode tests (λ q. is_eq (ordering_then (nat_cmp q.project project) (slice_cmp nat_cmp q.group group))) k.state.modes (named project group) k (in_state (without_record (Key.Mode project group)) k) refl refl (alike k _) (λ o. regular_with_modes k _ (ascending-filter _ _ k.state.modes o.modes) o) (λ q. same_named project group q.project q.group) (λ r. refl)
-    DELETE_MODE.now means_remove whole
+    removed_owned g old new mode_row 12 mode tests (λ q. is_eq (ordering_then (nat_cmp q.project project) (slice_cmp nat_cmp q.group group))) k.state.modes (named project group) k (in_state (without_record (Key.Mode project group)) k) refl refl (alike k _) (λ o. regular_with_modes k _ (ascending-filter _ _ k.state.modes o.modes) o) (λ q. same_named project group q.project q.group) (λ r. refl) DELETE_MODE.now removes
 
 -- ---- two records with the same row
 
@@ -68,11 +63,7 @@ same_order NewestReadyFirst OldestFirst h = cc
 same_order NewestReadyFirst NewestReadyFirst h = refl
 
 same_mode : (p q : GroupMode) → mode_row p ≡ mode_row q → p ≡ q
-same_mode p q h =
-    let a : p.project ≡ q.project = cc in
-    let b : p.group ≡ q.group = cc in
-    let c : number (order_number p.order) ≡ number (order_number q.order) = cc in
-    λ i. record { project = a i; group = b i; order = same_order p.order q.order c i }
+same_mode p q h = λ i. record { project = number_of (h i) 0; group = text_of (h i) 1; order = same_order p.order q.order (λ j. column (h j) 2) i }
 
 -- ---- the queries that load
 
@@ -85,12 +76,7 @@ plain_select = means_select.plain
 
 pub mode_found : {S : Type 0} (g : Ghosts S) (old new : Held S) (k : Kept) → IsAt g k old → (project : ℕ) (group : List ℕ) (found : Option GroupMode) → ShowsRecords (λ row x. row ≡ mode_row x) g SELECT_MODE.now (number project ∷ Text group ∷ []) old new (listed found)
     → found ≡ mode_at k.state project group
-mode_found g old new k at project group found h =
-    found_one (λ row x. row ≡ mode_row x) mode_row (is_mode_of project group) k.state.modes (λ x y _ same. sym (same_mode y x same)) h.rows
-    (shows_passing mode_row 12 mode refl SELECT_MODE.now tests (number project ∷ Text group ∷ []) (λ im. equal Binary (column im 0) (number project) && (equal Binary (column im 1) (Text group) && true)) (λ r. refl)
-    (is_mode_of project group) (λ x. finds_named x.project project x.group group) k k.state.modes refl h.rows
-    (λ r. refl) means_select (state g old) (state g new) at.now h.shown)
-    found h.read
+mode_found g old new k at project group = one_found g old new (λ row x. row ≡ mode_row x) mode_row 12 mode refl (λ key r. refl) k k.state.modes refl (λ x y _ same. sym (same_mode y x same)) at.now SELECT_MODE.now tests (number project ∷ Text group ∷ []) means_select (λ im. equal Binary (column im 0) (number project) && (equal Binary (column im 1) (Text group) && true)) (λ r. refl) (is_mode_of project group) (λ x. finds_named x.project project x.group group)
 
 means_select_all : MeansSelect the_schema mode SELECT_MODES.now [] (columns_of mode) (by_two 1 2) (names_of mode)
 unfolding understood everything

@@ -2,14 +2,13 @@
 use Rattle.std.proofs.Common.{◌≡◌, ◌∙◌, ℕ, pos, List, [], ◌∷◌, map, take, drop, Bool, true, false, ◌&&◌, cond, is_eq, refl, sym, inl, inr, nat_cmp}
 use Rattle.std.specs.Ordering.{ordering_then}
 use Rattle.sqlite_value.specs.declared.keys.Collation.TheVariants.{Binary}
-use Rattle.ci_store.specs.Prelude.{plain, is_null, Le, Ge, equal, agree, cast, Integer, Value, Null, Row, column, Term, lit, col, Trees, everything, understood, Ghosts, Held}
+use Rattle.ci_store.specs.Prelude.{plain, is_null, Le, Ge, equal, agree, cast, Integer, Value, Null, Row, column, Term, lit, col, everything, understood, Ghosts, Held}
 use Rattle.ci_store.specs.Prelude.{state, Kept, with_record, without_record, need_cmp, is_within, needs_within, Need, Record, Key, image, HasPut}
 use Rattle.sqlite_value.proofs.KeyLemmas.{first_key-plain}
 use Rattle.sqlite.proofs.Callers.{IsPlain}
 use Rattle.sqlite_keyed.proofs.ListLemmas.{ascending_weaker, ascending-filter}
 use Rattle.ci_store.proofs.Queries.{no_limit}
-use Rattle.ci_store.proofs.Writes.{IsWholeStep, whole_if_alone}
-use Rattle.ci_store.proofs.Puts.{MeansPut, MeansRemove, GivesRecord}
+use Rattle.ci_store.proofs.Puts.{MeansPut, GivesRecord}
 use Rattle.ci_store.proofs.Absent.{absent_unique}
 use Rattle.ci_store.proofs.Scalars.{cast_int, equal_int, compares}
 use Rattle.ci_store.proofs.Selects.{MeansSelect}
@@ -19,7 +18,8 @@ use Rattle.ci_store_rows.proofs.OneList.{IsAlike, alike_but, regular_with_needs}
 use Rattle.ci_store_rows.proofs.Lists.{put_rises, by_two as in_two_parts}
 use Rattle.ci_store_rows.proofs.Records.{is, at_least, at_most, put_stands, both_equal, same_number, finds_within}
 use Rattle.ci_store_rows.proofs.Removals.{Referring}
-use Rattle.ci_store_rows.proofs.Owned.{tests, removed_owned}
+use Rattle.ci_store_rows.proofs.Owned.{tests, RemovesAlone, removed_owned}
+use Rattle.ci_store_rows.proofs.Same.{number_of}
 use Rattle.ci_store_rows.proofs.Shows.{columns_of, names_of, by_two, by_two_total, pair_of_two, shows_ordered, found_all, rising_two}
 
 abbrev sets : List Term
@@ -68,36 +68,29 @@ need_puts ghosts before after n k stands h =
     put_stands need_row k.state.needs k (in_state (with_record (Record.Need n)) k) need refl (alike k _) (regular_with_needs k _ (put_rises need_cmp (in_two_parts (λ (q : Need). q.job) (λ q. q.pred)) n k.state.needs stands.inside.regular.needs) stands.inside.regular)
     8 UPDATE_NEED.now INSERT_NEED.now tests sets terms means need_cmp (key_of n.job n.pred) n (gives n) (same_key n.job n.pred) refl ghosts before after stands h
 
-means_remove : MeansRemove the_schema 8 need DELETE_NEED.now tests
+removes : RemovesAlone 8 need DELETE_NEED.now tests
 unfolding understood everything
-means_remove = record { there = refl; apart = refl; delete_is = refl; delete_plain = (refl, refl) }
-
-whole : (asked : List Term) (params : Row) (db : Trees) → IsWholeStep the_schema need asked params db
-unfolding everything
-whole asked params db = whole_if_alone the_schema need asked params db (λ olds. refl)
+removes = record { means = record { there = refl; apart = refl; delete_is = refl; delete_plain = (refl, refl) }; alone = λ olds. refl }
 
 pub need_removed : {S : Type 0} (g : Ghosts S) (old new : Held S) (job pred : ℕ) (k : Kept) → Stands k (state g old).now → RemovesUnreferred g [] DELETE_NEED.now (key_of job pred) old new → Stands (in_state (without_record (Key.Need job pred)) k) (state g new).now
 need_removed g old new job pred k =
     removed_owned g old new need_row 8 need tests (λ q. is_eq (ordering_then (nat_cmp q.job job) (nat_cmp q.pred pred))) k.state.needs (key_of job pred) k (in_state (without_record (Key.Need job pred)) k) refl refl (alike k _) (λ o. regular_with_needs k _ (ascending-filter _ _ k.state.needs o.needs) o) (same_key job pred) (λ r. refl)
-    DELETE_NEED.now means_remove (whole tests)
+    DELETE_NEED.now removes
 
 -- all that a job waits for
-means_remove_all : MeansRemove the_schema 8 need DELETE_NEEDS.now (is 1 0 ∷ [])
+removes_all : RemovesAlone 8 need DELETE_NEEDS.now (is 1 0 ∷ [])
 unfolding understood everything
-means_remove_all = record { there = refl; apart = refl; delete_is = refl; delete_plain = (refl, refl) }
+removes_all = record { means = record { there = refl; apart = refl; delete_is = refl; delete_plain = (refl, refl) }; alone = λ olds. refl }
 
 pub needs_removed : {S : Type 0} (g : Ghosts S) (old new : Held S) (job : ℕ) (k : Kept) → Stands k (state g old).now → RemovesUnreferred g [] DELETE_NEEDS.now (number job ∷ []) old new → Stands (in_state (without_record (Key.Needs job)) k) (state g new).now
 needs_removed g old new job k =
     removed_owned g old new need_row 8 need (is 1 0 ∷ []) (λ q. is_eq (nat_cmp q.job job)) k.state.needs (number job ∷ []) k (in_state (without_record (Key.Needs job)) k) refl refl (alike k _) (λ o. regular_with_needs k _ (ascending-filter _ _ k.state.needs o.needs) o) (λ q. same_number q.job job) (λ r. refl)
-    DELETE_NEEDS.now means_remove_all (whole (is 1 0 ∷ []))
+    DELETE_NEEDS.now removes_all
 
 -- ---- two records with the same row
 
 same_need : (p q : Need) → need_row p ≡ need_row q → p ≡ q
-same_need p q h =
-    let a : p.job ≡ q.job = cc in
-    let b : p.pred ≡ q.pred = cc in
-    λ i. record { job = a i; pred = b i }
+same_need p q h = λ i. record { job = number_of (h i) 0; pred = number_of (h i) 1 }
 
 -- ---- the queries that load
 

@@ -2,13 +2,13 @@
 use Rattle.std.proofs.Common.{◌≡◌, ◌∙◌, ◌==◌, ℕ, List, [], ◌∷◌, map, filter, Bool, true, false, ◌&&◌, not, cond, is_eq, Ordering, Less, Some, slice_get, refl, sym, subst, nat_cmp}
 use Rattle.std.specs.Ordering.{ordering_then}
 use Rattle.std.specs.Cmp.Lexicographic.{slice_cmp}
-use Rattle.ci_store.specs.Prelude.{Value, Null, Text, plain, equal, agree, Row, column, Term, lit, col, Table, Trees, output, output_cmp, Ghosts, Held, state, Kept, has_key, image}
+use Rattle.ci_store.specs.Prelude.{Value, Null, Text, plain, equal, agree, Row, column, Term, lit, col, Table, output, output_cmp, Ghosts, Held, state, Kept, has_key, image}
 use Rattle.ci_store.specs.Prelude.{places}
 use Rattle.sqlite_value.specs.declared.keys.Collation.TheVariants.{Binary}
 use Rattle.sqlite_value.proofs.KeyLemmas.{first_key-plain}
 use Rattle.sqlite_keyed.proofs.ListLemmas.{filter_same}
 use Rattle.ci_store.proofs.Queries.{query, picks}
-use Rattle.ci_store.proofs.Writes.{IsWholeStep}
+use Rattle.ci_store.proofs.Writes.{IsActedOnByNone, whole_if_alone}
 use Rattle.ci_store.proofs.Puts.{MeansRemove}
 use Rattle.ci_store.proofs.Selects.{MeansSelect}
 use Rattle.ci_store.proofs.Scalars.{equal_int, equal_text}
@@ -44,14 +44,19 @@ pub agrees : (r new_row : Row) (x y z : Value) → image (1 ∷ 2 ∷ 3 ∷ []) 
 agrees r new_row x y z is =
     sym (λ i. equal (first_key-plain i).collation (column r 1) (column (is i) 0) && (equal (first_key-plain i).collation (column r 2) (column (is i) 1) && true))
 
+-- what the text of a removal means, of a table to which no other refers
+pub record RemovesAlone (at : ℕ) (table : Table) (delete : List ℕ) (asked : List Term) : Type 0 where
+  pub means : MeansRemove the_schema at table delete asked
+  pub alone : IsActedOnByNone the_schema table.tree []
+
 module _ {S : Type 0} (g : Ghosts S) (old new : Held S) {A : Type 0} (values : A → Row) (at : ℕ) (table : Table) where
   -- the removal of the records with values of the first columns, where no table refers to them
   pub removed_owned : (asked : List Term) (test : A → Bool) (xs : List A) (key : Row) (k next : Kept) → rows_of k table.tree ≡ map values xs → rows_of next table.tree ≡ map values (filter (λ x. not (test x)) xs) → IsAlike (rows_of k) (rows_of next) table
       → (IsRegular k → IsRegular next) → ((x : A) → has_key key (values x) ≡ test x) → ((r : Row) → picks asked key r ≡ has_key key (image (places table) r))
-      → (delete : List ℕ) → MeansRemove the_schema at table delete asked → ((params : Row) (db : Trees) → IsWholeStep the_schema table asked params db)
+      → (delete : List ℕ) → RemovesAlone at table delete asked
       → Stands k (state g old).now → RemovesUnreferred g [] delete key old new → Stands next (state g new).now
-  removed_owned asked test xs key k next was gone alike regular keyed tested delete means whole stands h =
-      remove_stands values xs k next table was alike (regular stands.inside.regular) at delete asked means key tested test keyed gone g h.mid new h.count (subst (λ h. Stands k (state g h).now) h.none stands) (whole key (state g h.mid).now.trees) h.removed
+  removed_owned asked test xs key k next was gone alike regular keyed tested delete removes stands h =
+      remove_stands values xs k next table was alike (regular stands.inside.regular) at delete asked removes.means key tested test keyed gone g h.mid new h.count (subst (λ h. Stands k (state g h).now) h.none stands) (whole_if_alone the_schema table asked key (state g h.mid).now.trees removes.alone) h.removed
 
   -- the records of an owner, which a query shows in the order of the second column
   pub owned_found : (owner : A → ℕ) (second : A → A → Ordering) → ((x y : A) → values x ≡ values y → x ≡ y) → slice_get the_schema.tables at ≡ Some table

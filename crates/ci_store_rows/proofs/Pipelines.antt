@@ -1,5 +1,5 @@
 -- The statements that write `pipeline`.
-use Rattle.std.proofs.Common.{◌∙◌, ℕ, pos, List, [], ◌∷◌, refl, ap, ◌≡◌, ◌==◌, ◌&&◌, Bool, true, false, Option, filter, reverse, sym, map, take, drop, length, ◌<◌, ◌≤◌, codes, if◌then◌else◌, inl, inr, nat_lt}
+use Rattle.std.proofs.Common.{◌∙◌, ℕ, pos, List, [], ◌∷◌, refl, ap, ◌≡◌, ◌==◌, ◌&&◌, Bool, true, false, Option, filter, reverse, sym, map, take, drop, length, ◌<◌, ◌≤◌, codes, if◌then◌else◌, nat_lt}
 use Rattle.ci_store.specs.Prelude.{Null, Text, Row, column, Term, lit, col, everything, understood, Ghosts, Held, state, Lt, Gt, Coalesce, Kept, with_record, without_record}
 use Rattle.ci_store.specs.Prelude.{pipeline_cmp, Pipeline, Record, Key, image, places, HasPut, pipeline_at, newer_in, same_kind, is_newer_of, RefKind, Branch, Tag, Source, Push}
 use Rattle.ci_store.specs.Prelude.{Web, Schedule, Api, Trigger, equal, plain, joined, Enforced, works, pairs, loses}
@@ -10,19 +10,21 @@ use Rattle.ci_store.proofs.Puts.{MeansPut, MeansRemove, GivesRecord}
 use Rattle.ci_store.proofs.Absent.{absent_rowid}
 use Rattle.ci_store.proofs.Scalars.{cast_int, equal_int, equal_text, compares}
 use Rattle.ci_store_rows.specs.Prelude.{UPDATE_PIPELINE, INSERT_PIPELINE, DELETE_PIPELINE, SELECT_PIPELINE, SELECT_PIPELINES_ABOVE, SELECT_NEWER_PIPELINES, SELECT_PIPELINES_BEFORE}
-use Rattle.ci_store_rows.specs.Prelude.{SELECT_SOME_PIPELINES_BEFORE, SELECT_NEWEST_PIPELINES, LAST_INTEGER, the_schema, pipeline, number, pipeline_row, kind_number, source_number}
+use Rattle.ci_store_rows.specs.Prelude.{SELECT_SOME_PIPELINES_BEFORE, SELECT_NEWEST_PIPELINES, the_schema, pipeline, number, pipeline_row, kind_number, source_number}
 use Rattle.ci_store_rows.specs.Prelude.{rows_by_tree, rows_of, Stands, IsAt, ShowsRecords, listed, FindsNumber, in_state, RemovesUnreferred}
 use Rattle.ci_store_rows.proofs.OneList.{IsAlike, alike_but, regular_with_pipelines}
 use Rattle.ci_store_rows.proofs.Lists.{put_rises, by_number}
-use Rattle.ci_store_rows.proofs.Records.{is, put_stands, same_number, is_number, finds_number, numbered, above, finds_beyond, below, finds_below, plus_is, finds_plus_number, plus_below, finds_plus_below}
+use Rattle.ci_store_rows.proofs.Records.{is, put_stands, same_number, is_number, numbered, above, finds_beyond, below, finds_below, plus_is, finds_plus_number, plus_below, finds_plus_below}
 use Rattle.sqlite.specs.Collation.TheVariants.{Binary}
 use Rattle.sqlite.proofs.Callers.{IsPlain}
-use Rattle.ci_store.proofs.Selects.{MeansSelect, MeansSelectTo}
+use Rattle.ci_store.proofs.Selects.{MeansSelectTo}
 use Rattle.std.specs.Str.{bytes_eq}
-use Rattle.ci_store_rows.proofs.Shows.{columns_of, names_of, pair, by, by_total, backward, shows_passing, shows_ordered, shows_backward, shows_some, found_one, found_first, found_some, found_none, first_of_one, rising_numbers, falling_numbers, filter-reverse}
+use Rattle.ci_store_rows.proofs.Shows.{columns_of, names_of, pair, by, by_total, backward, shows_ordered, shows_backward, shows_some, found_first, found_some, first_of_one, rising_numbers, falling_numbers, filter-reverse}
+use Rattle.ci_store_rows.proofs.Numbered.{MeansNumbered, numbered_found}
 use Rattle.std.specs.List.{list_any, All, Contains}
 use Rattle.ci_store_rows.proofs.Removals.{queries, cascades, removed_numbered}
 use Rattle.ci_store_rows.proofs.Jobs.{refers_to_pipeline}
+use Rattle.ci_store_rows.proofs.Same.{number_of, text_of}
 
 abbrev sets : List Term
 sets = col 0 0 ∷ lit Null ∷ col 0 1 ∷ col 0 2 ∷ col 0 3 ∷ col 0 4 ∷ col 0 5 ∷ []
@@ -85,47 +87,24 @@ source_is Trigger = refl
 
 same_pipeline : (p q : Pipeline) → pipeline_row p ≡ pipeline_row q → p ≡ q
 same_pipeline p q h =
-    let a : p.id ≡ q.id = cc in
-    let b : p.project ≡ q.project = cc in
-    let c : p.git_ref ≡ q.git_ref = cc in
-    let d : kind_number p.kind ≡ kind_number q.kind = cc in
-    let e : source_number p.source ≡ source_number q.source = cc in
-    let f : p.created ≡ q.created = cc in
-    let kind = sym (kind_is p.kind) ∙ ap kind_back d ∙ kind_is q.kind in
-    let source = sym (source_is p.source) ∙ ap source_back e ∙ source_is q.source in
-    λ i. record { id = a i; project = b i; git_ref = c i; kind = kind i; source = source i; created = f i }
+    let kind = sym (kind_is p.kind) ∙ (λ i. kind_back (number_of (h i) 3)) ∙ kind_is q.kind in
+    let source = sym (source_is p.source) ∙ (λ i. source_back (number_of (h i) 4)) ∙ source_is q.source in
+    λ i. record { id = number_of (h i) 0; project = number_of (h i) 1; git_ref = text_of (h i) 2; kind = kind i; source = source i; created = number_of (h i) 5 }
 
 -- ---- the queries that load
 
-means_select : MeansSelect the_schema pipeline SELECT_PIPELINE.now (is 0 0 ∷ []) (columns_of pipeline) [] (names_of pipeline)
+means_numbered : MeansNumbered pipeline SELECT_PIPELINE.now SELECT_PIPELINES_ABOVE.now
 unfolding understood everything
-means_select = record { is = refl; unlisted = refl; plain = (refl, refl) }
+means_numbered = record { at_number = record { is = refl; unlisted = refl; plain = (refl, refl) }; over_it = record { is = refl; unlisted = refl; plain = (refl, refl) } }
 
 pub plain_select : IsPlain (understood the_schema SELECT_PIPELINE.now)
-plain_select = means_select.plain
-
-pub pipeline_found : {S : Type 0} (g : Ghosts S) (old new : Held S) (k : Kept) → IsAt g k old → (id : ℕ) (found : Option Pipeline) → ShowsRecords (λ row x. row ≡ pipeline_row x) g SELECT_PIPELINE.now (number id ∷ []) old new (listed found) → found ≡ pipeline_at k.state id
-pipeline_found g old new k at id found h =
-    found_one (λ row x. row ≡ pipeline_row x) pipeline_row (λ x. x.id == id) k.state.pipelines (λ x y _ same. sym (same_pipeline y x same)) h.rows
-    (shows_passing pipeline_row 3 pipeline refl SELECT_PIPELINE.now (is 0 0 ∷ []) (number id ∷ []) (λ im. equal Binary (column im 0) (number id) && true) (λ r. refl) (λ x. x.id == id) (λ x. finds_number x.id id) k k.state.pipelines refl h.rows
-    (λ r. refl) means_select (state g old) (state g new) at.now h.shown)
-    found h.read
-
-means_select_above : MeansSelect the_schema pipeline SELECT_PIPELINES_ABOVE.now (above 0 0 ∷ []) (columns_of pipeline) [] (names_of pipeline)
-unfolding understood everything
-means_select_above = record { is = refl; unlisted = refl; plain = (refl, refl) }
+plain_select = means_numbered.at_number.plain
 
 pub plain_select_above : IsPlain (understood the_schema SELECT_PIPELINES_ABOVE.now)
-plain_select_above = means_select_above.plain
+plain_select_above = means_numbered.over_it.plain
 
 pub pipeline_named : {S : Type 0} (g : Ghosts S) (old new : Held S) (k : Kept) → IsAt g k old → (id : ℕ) (found : Option Pipeline) → FindsNumber (λ row x. row ≡ pipeline_row x) g SELECT_PIPELINE.now SELECT_PIPELINES_ABOVE.now id old new found → found ≡ pipeline_at k.state id
-pipeline_named g old new k at id found (inl h) = pipeline_found g old new k at id found h
-pipeline_named g old new k at id found (inr h) =
-    h.0
-    ∙ sym (found_none (λ (x : Pipeline). x.id) LAST_INTEGER id h.1 (λ row x. row ≡ pipeline_row x) pipeline_row k.state.pipelines h.2.rows
-    (shows_passing pipeline_row 3 pipeline refl SELECT_PIPELINES_ABOVE.now (above 0 0 ∷ []) (number LAST_INTEGER ∷ []) (λ im. compares Gt (column im 0) (number LAST_INTEGER) && true) (λ r. refl) (λ x. nat_lt LAST_INTEGER x.id) (λ x. finds_beyond LAST_INTEGER x.id) k k.state.pipelines refl h.2.rows
-    (λ r. refl) means_select_above (state g old) (state g new) at.now h.2.shown)
-    h.2.read)
+pipeline_named g old new k at = numbered_found g old new (λ row x. row ≡ pipeline_row x) pipeline_row 3 pipeline refl (λ key r. refl) k k.state.pipelines refl (λ x y _ same. sym (same_pipeline y x same)) at.now (λ x. x.id) (λ x. refl) (λ n r. refl) (λ n r. refl) SELECT_PIPELINE.now SELECT_PIPELINES_ABOVE.now means_numbered
 
 -- ---- the newer pipelines of the same project, for the same branch or the same tag
 

@@ -1,24 +1,25 @@
 -- The statements that write `project`.
-use Rattle.std.proofs.Common.{◌∙◌, ℕ, pos, List, [], ◌∷◌, refl, ap, ◌≡◌, ◌==◌, ◌&&◌, true, Option, sym, map, take, drop, codes, inl, inr, nat_lt}
-use Rattle.ci_store.specs.Prelude.{Null, Text, Row, column, Term, lit, col, everything, understood, Ghosts, Held, state, Gt, Kept, with_record, without_record, project_cmp}
-use Rattle.ci_store.specs.Prelude.{Project, Record, Key, image, places, HasPut, project_at, project_with, equal, plain, Enforced, works, pairs, loses, or_null}
+use Rattle.std.proofs.Common.{◌∙◌, ℕ, pos, List, [], ◌∷◌, refl, ap, ◌≡◌, ◌&&◌, true, Option, sym, map, take, drop, codes}
+use Rattle.ci_store.specs.Prelude.{Null, Text, Row, column, Term, lit, col, everything, understood, Ghosts, Held, state, Kept, with_record, without_record, project_cmp}
+use Rattle.ci_store.specs.Prelude.{Project, Record, Key, image, places, HasPut, project_at, project_with, equal, plain, Enforced, works, pairs, loses}
 use Rattle.sqlite_keyed.proofs.ListLemmas.{ascending-filter}
 use Rattle.ci_store.proofs.Puts.{MeansPut, MeansRemove, GivesRecord}
 use Rattle.ci_store.proofs.Absent.{absent_rowid}
-use Rattle.ci_store.proofs.Scalars.{cast_int, cast_text, compares}
-use Rattle.ci_store_rows.specs.Prelude.{UPDATE_PROJECT, INSERT_PROJECT, DELETE_PROJECT, SELECT_PROJECT, SELECT_PROJECT_WITH, SELECT_PROJECTS_ABOVE, LAST_INTEGER, the_schema}
+use Rattle.ci_store.proofs.Scalars.{cast_int, cast_text}
+use Rattle.ci_store_rows.specs.Prelude.{UPDATE_PROJECT, INSERT_PROJECT, DELETE_PROJECT, SELECT_PROJECT, SELECT_PROJECT_WITH, SELECT_PROJECTS_ABOVE, the_schema}
 use Rattle.ci_store_rows.specs.Prelude.{project, number, project_row, rows_by_tree, rows_of, Stands, IsAt, ShowsRecords, listed, FindsNumber, in_state, RemovesUnreferred}
 use Rattle.ci_store_rows.proofs.OneList.{IsAlike, alike_but, regular_with_projects}
 use Rattle.ci_store_rows.proofs.Lists.{put_rises, by_number}
-use Rattle.ci_store_rows.proofs.Records.{is, put_stands, same_number, finds_number, finds_text, numbered, above, finds_beyond}
+use Rattle.ci_store_rows.proofs.Records.{is, put_stands, same_number, finds_text, numbered}
 use Rattle.sqlite.specs.Collation.TheVariants.{Binary}
 use Rattle.sqlite.proofs.Callers.{IsPlain}
 use Rattle.ci_store.proofs.Selects.{MeansSelect}
 use Rattle.std.specs.Str.{bytes_eq}
-use Rattle.ci_store_rows.proofs.Shows.{columns_of, names_of, shows_passing, found_one, found_none}
+use Rattle.ci_store_rows.proofs.Shows.{columns_of, names_of}
+use Rattle.ci_store_rows.proofs.Numbered.{one_found, MeansNumbered, numbered_found}
 use Rattle.std.specs.List.{list_any}
 use Rattle.ci_store_rows.proofs.Removals.{cascades, removed_numbered}
-use Rattle.ci_store_rows.proofs.Same.{same_words}
+use Rattle.ci_store_rows.proofs.Same.{number_of, text_of, same_words}
 
 abbrev sets : List Term
 sets = col 0 0 ∷ lit Null ∷ col 0 1 ∷ col 0 2 ∷ col 0 3 ∷ []
@@ -63,44 +64,22 @@ project_removed g old new id k =
 -- ---- two records with the same row
 
 same_project : (p q : Project) → project_row p ≡ project_row q → p ≡ q
-same_project p q h =
-    let a : p.id ≡ q.id = cc in
-    let b : p.name ≡ q.name = cc in
-    let c : p.token ≡ q.token = cc in
-    let d : or_null Text p.file ≡ or_null Text q.file = cc in
-    λ i. record { id = a i; name = b i; token = c i; file = same_words p.file q.file d i }
+same_project p q h = λ i. record { id = number_of (h i) 0; name = text_of (h i) 1; token = text_of (h i) 2; file = same_words p.file q.file (λ j. column (h j) 3) i }
 
 -- ---- the queries that load
 
-means_select : MeansSelect the_schema project SELECT_PROJECT.now (is 0 0 ∷ []) (columns_of project) [] (names_of project)
+means_numbered : MeansNumbered project SELECT_PROJECT.now SELECT_PROJECTS_ABOVE.now
 unfolding understood everything
-means_select = record { is = refl; unlisted = refl; plain = (refl, refl) }
+means_numbered = record { at_number = record { is = refl; unlisted = refl; plain = (refl, refl) }; over_it = record { is = refl; unlisted = refl; plain = (refl, refl) } }
 
 pub plain_select : IsPlain (understood the_schema SELECT_PROJECT.now)
-plain_select = means_select.plain
-
-pub project_found : {S : Type 0} (g : Ghosts S) (old new : Held S) (k : Kept) → IsAt g k old → (id : ℕ) (found : Option Project) → ShowsRecords (λ row x. row ≡ project_row x) g SELECT_PROJECT.now (number id ∷ []) old new (listed found) → found ≡ project_at k.state id
-project_found g old new k at id found h =
-    found_one (λ row x. row ≡ project_row x) project_row (λ x. x.id == id) k.state.projects (λ x y _ same. sym (same_project y x same)) h.rows
-    (shows_passing project_row 1 project refl SELECT_PROJECT.now (is 0 0 ∷ []) (number id ∷ []) (λ im. equal Binary (column im 0) (number id) && true) (λ r. refl) (λ x. x.id == id) (λ x. finds_number x.id id) k k.state.projects refl h.rows
-    (λ r. refl) means_select (state g old) (state g new) at.now h.shown)
-    found h.read
-
-means_select_above : MeansSelect the_schema project SELECT_PROJECTS_ABOVE.now (above 0 0 ∷ []) (columns_of project) [] (names_of project)
-unfolding understood everything
-means_select_above = record { is = refl; unlisted = refl; plain = (refl, refl) }
+plain_select = means_numbered.at_number.plain
 
 pub plain_select_above : IsPlain (understood the_schema SELECT_PROJECTS_ABOVE.now)
-plain_select_above = means_select_above.plain
+plain_select_above = means_numbered.over_it.plain
 
 pub project_named : {S : Type 0} (g : Ghosts S) (old new : Held S) (k : Kept) → IsAt g k old → (id : ℕ) (found : Option Project) → FindsNumber (λ row x. row ≡ project_row x) g SELECT_PROJECT.now SELECT_PROJECTS_ABOVE.now id old new found → found ≡ project_at k.state id
-project_named g old new k at id found (inl h) = project_found g old new k at id found h
-project_named g old new k at id found (inr h) =
-    h.0
-    ∙ sym (found_none (λ (x : Project). x.id) LAST_INTEGER id h.1 (λ row x. row ≡ project_row x) project_row k.state.projects h.2.rows
-    (shows_passing project_row 1 project refl SELECT_PROJECTS_ABOVE.now (above 0 0 ∷ []) (number LAST_INTEGER ∷ []) (λ im. compares Gt (column im 0) (number LAST_INTEGER) && true) (λ r. refl) (λ x. nat_lt LAST_INTEGER x.id) (λ x. finds_beyond LAST_INTEGER x.id) k k.state.projects refl h.2.rows
-    (λ r. refl) means_select_above (state g old) (state g new) at.now h.2.shown)
-    h.2.read)
+project_named g old new k at = numbered_found g old new (λ row x. row ≡ project_row x) project_row 1 project refl (λ key r. refl) k k.state.projects refl (λ x y _ same. sym (same_project y x same)) at.now (λ x. x.id) (λ x. refl) (λ n r. refl) (λ n r. refl) SELECT_PROJECT.now SELECT_PROJECTS_ABOVE.now means_numbered
 
 means_select_with : MeansSelect the_schema project SELECT_PROJECT_WITH.now (is 3 0 ∷ []) (columns_of project) [] (names_of project)
 unfolding understood everything
@@ -110,8 +89,4 @@ pub plain_select_with : IsPlain (understood the_schema SELECT_PROJECT_WITH.now)
 plain_select_with = means_select_with.plain
 
 pub project_with_found : {S : Type 0} (g : Ghosts S) (old new : Held S) (k : Kept) → IsAt g k old → (token : List ℕ) (found : Option Project) → ShowsRecords (λ row x. row ≡ project_row x) g SELECT_PROJECT_WITH.now (Text token ∷ []) old new (listed found) → found ≡ project_with k.state token
-project_with_found g old new k at token found h =
-    found_one (λ row x. row ≡ project_row x) project_row (λ x. bytes_eq x.token token) k.state.projects (λ x y _ same. sym (same_project y x same)) h.rows
-    (shows_passing project_row 1 project refl SELECT_PROJECT_WITH.now (is 3 0 ∷ []) (Text token ∷ []) (λ im. equal Binary (column im 2) (Text token) && true) (λ r. refl) (λ x. bytes_eq x.token token) (λ x. finds_text x.token token) k k.state.projects refl h.rows
-    (λ r. refl) means_select_with (state g old) (state g new) at.now h.shown)
-    found h.read
+project_with_found g old new k at token = one_found g old new (λ row x. row ≡ project_row x) project_row 1 project refl (λ key r. refl) k k.state.projects refl (λ x y _ same. sym (same_project y x same)) at.now SELECT_PROJECT_WITH.now (is 3 0 ∷ []) (Text token ∷ []) means_select_with (λ im. equal Binary (column im 2) (Text token) && true) (λ r. refl) (λ x. bytes_eq x.token token) (λ x. finds_text x.token token)

@@ -1,27 +1,28 @@
 -- The statements that write `runner`.
-use Rattle.std.proofs.Common.{◌≡◌, ◌∙◌, ◌==◌, inl, inr, nat_lt, ℕ, pos, List, [], ◌∷◌, if◌then◌else◌, Some, refl, ap, ◌&&◌, true, Option, sym, map, take, drop, codes}
+use Rattle.std.proofs.Common.{◌≡◌, ◌∙◌, ℕ, pos, List, [], ◌∷◌, if◌then◌else◌, Some, refl, ap, ◌&&◌, true, Option, sym, map, take, drop, codes}
 use Rattle.ci_store.specs.Prelude.{Null, Text, Row, column, Term, lit, col, everything, understood, Ghosts, Held, state, Kept, with_record, without_record, runner_cmp, Runner}
-use Rattle.ci_store.specs.Prelude.{Record, Key, image, places, HasPut, runner_at, runner_with, Gt, equal, plain, Enforced, works, pairs, loses, or_null}
+use Rattle.ci_store.specs.Prelude.{Record, Key, image, places, HasPut, runner_at, runner_with, equal, plain, Enforced, works, pairs, loses}
 use Rattle.sqlite_keyed.proofs.ListLemmas.{ascending-filter, all-filter}
 use Rattle.ci_store.proofs.Puts.{MeansPut, MeansRemove, GivesRecord}
 use Rattle.ci_store.proofs.Absent.{absent_rowid}
-use Rattle.ci_store.proofs.Scalars.{cast_int, compares}
-use Rattle.ci_store_rows.specs.Prelude.{UPDATE_RUNNER, INSERT_RUNNER, DELETE_RUNNER, SELECT_RUNNER, SELECT_RUNNERS, SELECT_RUNNERS_ABOVE, SELECT_RUNNER_WITH, LAST_INTEGER}
+use Rattle.ci_store.proofs.Scalars.{cast_int}
+use Rattle.ci_store_rows.specs.Prelude.{UPDATE_RUNNER, INSERT_RUNNER, DELETE_RUNNER, SELECT_RUNNER, SELECT_RUNNERS, SELECT_RUNNERS_ABOVE, SELECT_RUNNER_WITH}
 use Rattle.ci_store_rows.specs.Prelude.{the_schema, runner, list_text, list_data, number, runner_row, rows_by_tree, rows_of, Stands, IsAt, ShowsRecords, listed, FindsNumber}
-use Rattle.ci_store_rows.specs.Prelude.{IsRunnerRow, in_state, RemovesUnreferred, flag, runner_cells, ReadsList}
+use Rattle.ci_store_rows.specs.Prelude.{IsRunnerRow, in_state, RemovesUnreferred, runner_cells, ReadsList}
 use Rattle.serde_json.specs.Read.{read}
 use Rattle.ci_store_rows.proofs.OneList.{IsAlike, alike_but, regular_with_runners}
 use Rattle.ci_store_rows.proofs.Lists.{put_rises, by_number, all_put}
-use Rattle.ci_store_rows.proofs.Records.{is, put_stands, same_number, finds_number, finds_text, numbered, above, finds_beyond, cast_option}
+use Rattle.ci_store_rows.proofs.Records.{is, put_stands, same_number, finds_text, numbered, cast_option}
 use Rattle.sqlite.specs.Collation.TheVariants.{Binary}
 use Rattle.sqlite.proofs.Callers.{IsPlain}
 use Rattle.ci_store.proofs.Selects.{MeansSelect}
 use Rattle.std.specs.Str.{bytes_eq}
 use Rattle.sqlite_rules.proofs.ListLemmas.{all_has}
-use Rattle.ci_store_rows.proofs.Shows.{columns_of, names_of, by, shows_passing, shows_sorted, found_one, found_all, found_none, rising_numbers, every}
+use Rattle.ci_store_rows.proofs.Shows.{columns_of, names_of, by, shows_sorted, found_all, rising_numbers, every}
+use Rattle.ci_store_rows.proofs.Numbered.{one_found, MeansNumbered, numbered_found}
 use Rattle.std.specs.List.{list_any}
 use Rattle.ci_store_rows.proofs.Removals.{cascades, removed_numbered}
-use Rattle.ci_store_rows.proofs.Same.{same_option, same_flag}
+use Rattle.ci_store_rows.proofs.Same.{number_of, text_of, same_option, same_flag}
 
 abbrev sets : List Term
 sets = col 0 0 ∷ lit Null ∷ col 0 1 ∷ col 0 2 ∷ col 0 3 ∷ col 0 4 ∷ col 0 5 ∷ col 0 6 ∷ []
@@ -67,47 +68,24 @@ runner_removed g old new id k =
 
 same_runner : (r q : Runner) (text : List ℕ) → ReadsList text r.tags → read (list_text q.tags) ≡ Some (list_data q.tags) → runner_cells r text ≡ runner_row q → r ≡ q
 same_runner r q text reads back h =
-    let a : r.id ≡ q.id = cc in
-    let b : r.name ≡ q.name = cc in
-    let c : r.token ≡ q.token = cc in
-    let d : or_null number r.project ≡ or_null number q.project = cc in
-    let t : text ≡ list_text q.tags = cc in
-    let u : flag r.untagged ≡ flag q.untagged = cc in
-    let p : flag r.paused ≡ flag q.paused = cc in
-    let tags = reads q.tags (ap read t ∙ back) in
-    λ i. record { id = a i; name = b i; token = c i; project = same_option r.project q.project d i; tags = tags i; untagged = same_flag r.untagged q.untagged u i; paused = same_flag r.paused q.paused p i }
+    let tags_text : text ≡ list_text q.tags = λ i. text_of (h i) 4 in
+    let tags = reads q.tags (ap read tags_text ∙ back) in
+    λ i. record { id = number_of (h i) 0; name = text_of (h i) 1; token = text_of (h i) 2; project = same_option r.project q.project (λ j. column (h j) 3) i; tags = tags i; untagged = same_flag r.untagged q.untagged (λ j. column (h j) 5) i; paused = same_flag r.paused q.paused (λ j. column (h j) 6) i }
 
 -- ---- the queries that load
 
-means_select : MeansSelect the_schema runner SELECT_RUNNER.now (is 0 0 ∷ []) (columns_of runner) [] (names_of runner)
+means_numbered : MeansNumbered runner SELECT_RUNNER.now SELECT_RUNNERS_ABOVE.now
 unfolding understood everything
-means_select = record { is = refl; unlisted = refl; plain = (refl, refl) }
+means_numbered = record { at_number = record { is = refl; unlisted = refl; plain = (refl, refl) }; over_it = record { is = refl; unlisted = refl; plain = (refl, refl) } }
 
 pub plain_select : IsPlain (understood the_schema SELECT_RUNNER.now)
-plain_select = means_select.plain
-
-runner_found : {S : Type 0} (g : Ghosts S) (old new : Held S) (k : Kept) → IsAt g k old → (id : ℕ) (found : Option Runner) → ShowsRecords IsRunnerRow g SELECT_RUNNER.now (number id ∷ []) old new (listed found) → found ≡ runner_at k.state id
-runner_found g old new k at id found h =
-    found_one IsRunnerRow runner_row (λ x. x.id == id) k.state.runners (λ x y there same. same_runner x y same.0 same.2 (all_has _ k.state.runners y at.now.inside.regular.tags there) (sym same.1)) h.rows
-    (shows_passing runner_row 2 runner refl SELECT_RUNNER.now (is 0 0 ∷ []) (number id ∷ []) (λ im. equal Binary (column im 0) (number id) && true) (λ r. refl) (λ x. x.id == id) (λ x. finds_number x.id id) k k.state.runners refl h.rows
-    (λ r. refl) means_select (state g old) (state g new) at.now h.shown)
-    found h.read
-
-means_select_above : MeansSelect the_schema runner SELECT_RUNNERS_ABOVE.now (above 0 0 ∷ []) (columns_of runner) [] (names_of runner)
-unfolding understood everything
-means_select_above = record { is = refl; unlisted = refl; plain = (refl, refl) }
+plain_select = means_numbered.at_number.plain
 
 pub plain_select_above : IsPlain (understood the_schema SELECT_RUNNERS_ABOVE.now)
-plain_select_above = means_select_above.plain
+plain_select_above = means_numbered.over_it.plain
 
 pub runner_named : {S : Type 0} (g : Ghosts S) (old new : Held S) (k : Kept) → IsAt g k old → (id : ℕ) (found : Option Runner) → FindsNumber IsRunnerRow g SELECT_RUNNER.now SELECT_RUNNERS_ABOVE.now id old new found → found ≡ runner_at k.state id
-runner_named g old new k at id found (inl h) = runner_found g old new k at id found h
-runner_named g old new k at id found (inr h) =
-    h.0
-    ∙ sym (found_none (λ (x : Runner). x.id) LAST_INTEGER id h.1 IsRunnerRow runner_row k.state.runners h.2.rows
-    (shows_passing runner_row 2 runner refl SELECT_RUNNERS_ABOVE.now (above 0 0 ∷ []) (number LAST_INTEGER ∷ []) (λ im. compares Gt (column im 0) (number LAST_INTEGER) && true) (λ r. refl) (λ x. nat_lt LAST_INTEGER x.id) (λ x. finds_beyond LAST_INTEGER x.id) k k.state.runners refl h.2.rows
-    (λ r. refl) means_select_above (state g old) (state g new) at.now h.2.shown)
-    h.2.read)
+runner_named g old new k at = numbered_found g old new IsRunnerRow runner_row 2 runner refl (λ key r. refl) k k.state.runners refl (λ x y there same. same_runner x y same.0 same.2 (all_has _ k.state.runners y at.now.inside.regular.tags there) (sym same.1)) at.now (λ x. x.id) (λ x. refl) (λ n r. refl) (λ n r. refl) SELECT_RUNNER.now SELECT_RUNNERS_ABOVE.now means_numbered
 
 means_select_with : MeansSelect the_schema runner SELECT_RUNNER_WITH.now (is 3 0 ∷ []) (columns_of runner) [] (names_of runner)
 unfolding understood everything
@@ -117,11 +95,7 @@ pub plain_select_with : IsPlain (understood the_schema SELECT_RUNNER_WITH.now)
 plain_select_with = means_select_with.plain
 
 pub runner_with_found : {S : Type 0} (g : Ghosts S) (old new : Held S) (k : Kept) → IsAt g k old → (token : List ℕ) (found : Option Runner) → ShowsRecords IsRunnerRow g SELECT_RUNNER_WITH.now (Text token ∷ []) old new (listed found) → found ≡ runner_with k.state token
-runner_with_found g old new k at token found h =
-    found_one IsRunnerRow runner_row (λ x. bytes_eq x.token token) k.state.runners (λ x y there same. same_runner x y same.0 same.2 (all_has _ k.state.runners y at.now.inside.regular.tags there) (sym same.1)) h.rows
-    (shows_passing runner_row 2 runner refl SELECT_RUNNER_WITH.now (is 3 0 ∷ []) (Text token ∷ []) (λ im. equal Binary (column im 2) (Text token) && true) (λ r. refl) (λ x. bytes_eq x.token token) (λ x. finds_text x.token token) k k.state.runners refl h.rows
-    (λ r. refl) means_select_with (state g old) (state g new) at.now h.shown)
-    found h.read
+runner_with_found g old new k at token = one_found g old new IsRunnerRow runner_row 2 runner refl (λ key r. refl) k k.state.runners refl (λ x y there same. same_runner x y same.0 same.2 (all_has _ k.state.runners y at.now.inside.regular.tags there) (sym same.1)) at.now SELECT_RUNNER_WITH.now (is 3 0 ∷ []) (Text token ∷ []) means_select_with (λ im. equal Binary (column im 2) (Text token) && true) (λ r. refl) (λ x. bytes_eq x.token token) (λ x. finds_text x.token token)
 
 means_select_all : MeansSelect the_schema runner SELECT_RUNNERS.now [] (columns_of runner) (by 0) (names_of runner)
 unfolding understood everything

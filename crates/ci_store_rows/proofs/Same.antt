@@ -1,8 +1,24 @@
 -- Cells that are the same, and lists that are read one by one.
-use Rattle.std.proofs.Common.{◌≡◌, ℕ, List, [], ◌∷◌, ◌++◌, Bool, true, false, Option, Some, None, refl}
+use Rattle.std.proofs.Common.{◌≡◌, ℕ, pos, List, [], ◌∷◌, ◌++◌, Bool, true, false, Option, Some, None, refl}
 use Rattle.std.specs.List.{AllZip}
-use Rattle.ci_store.specs.Prelude.{Text, or_null}
+use Rattle.ci_store.specs.Prelude.{Value, Int, Text, Row, column, or_null}
 use Rattle.ci_store_rows.specs.Prelude.{number, flag}
+
+-- the number or the text of a value, and 0 or no text where it is of another kind
+abbrev number_in : Value → ℕ
+number_in (Int (pos n)) = n
+number_in _ = 0
+
+abbrev text_in : Value → List ℕ
+text_in (Text text) = text
+text_in _ = []
+
+-- the same of a column of a row
+abbrev pub number_of : Row → ℕ → ℕ
+number_of row place = number_in (column row place)
+
+abbrev pub text_of : Row → ℕ → List ℕ
+text_of row place = text_in (column row place)
 
 pub same_words : (a b : Option (List ℕ)) → or_null Text a ≡ or_null Text b → a ≡ b
 same_words None None h = refl

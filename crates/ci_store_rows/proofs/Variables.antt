@@ -4,12 +4,11 @@ use Rattle.std.specs.Ordering.{ordering_then}
 use Rattle.std.specs.Str.{bytes_eq}
 use Rattle.std.specs.Cmp.Lexicographic.{slice_cmp}
 use Rattle.sqlite_value.specs.declared.keys.Collation.TheVariants.{Binary}
-use Rattle.ci_store.specs.Prelude.{is_null, equal, cast, Integer, Null, Text, Row, column, Trees, everything, understood, Ghosts, Held, state, Kept, with_record, without_record}
+use Rattle.ci_store.specs.Prelude.{is_null, equal, cast, Integer, Null, Text, column, everything, understood, Ghosts, Held, state, Kept, with_record, without_record}
 use Rattle.ci_store.specs.Prelude.{variable_cmp, Variable, Record, Key, HasPut, project_variables, variable_at}
 use Rattle.sqlite_keyed.proofs.ListLemmas.{ascending-filter}
 use Rattle.sqlite_rules.proofs.ListLemmas.{has_got}
-use Rattle.ci_store.proofs.Writes.{IsWholeStep, whole_if_alone}
-use Rattle.ci_store.proofs.Puts.{MeansPut, MeansRemove, GivesRecord}
+use Rattle.ci_store.proofs.Puts.{MeansPut, GivesRecord}
 use Rattle.ci_store.proofs.Absent.{absent_unique}
 use Rattle.ci_store.proofs.Scalars.{cast_int}
 use Rattle.ci_store_rows.specs.Prelude.{UPDATE_VARIABLE, INSERT_VARIABLE, DELETE_VARIABLE, SELECT_VARIABLE, SELECT_VARIABLES, the_schema, variable, variable_index_1, number}
@@ -19,8 +18,10 @@ use Rattle.ci_store_rows.proofs.Lists.{put_rises, by_both}
 use Rattle.ci_store_rows.proofs.Records.{is, put_stands, same_number, finds_named}
 use Rattle.sqlite.proofs.Callers.{IsPlain}
 use Rattle.ci_store.proofs.Selects.{MeansSelect}
-use Rattle.ci_store_rows.proofs.Owned.{tests, sets, terms, named, same_named, unnumbered, agrees, removed_owned, owned_found}
-use Rattle.ci_store_rows.proofs.Shows.{columns_of, names_of, by, rising_text, shows_passing, found_one}
+use Rattle.ci_store_rows.proofs.Owned.{tests, sets, terms, named, same_named, unnumbered, agrees, RemovesAlone, removed_owned, owned_found}
+use Rattle.ci_store_rows.proofs.Same.{number_of, text_of}
+use Rattle.ci_store_rows.proofs.Shows.{columns_of, names_of, by, rising_text}
+use Rattle.ci_store_rows.proofs.Numbered.{one_found}
 
 means : MeansPut the_schema 10 variable UPDATE_VARIABLE.now INSERT_VARIABLE.now tests sets terms
 unfolding understood everything
@@ -43,30 +44,20 @@ alike k xs = alike_but (take 10 (rows_by_tree k)) (drop 11 (rows_by_tree k)) var
 pub variable_puts : {S : Type 0} (ghosts : Ghosts S) (before after : Held S) (v : Variable) (k : Kept) → Stands k (state ghosts before).now → HasPut ghosts UPDATE_VARIABLE.now INSERT_VARIABLE.now (variable_row v) before after
     → Stands (in_state (with_record (Record.Variable v)) k) (state ghosts after).now
 variable_puts ghosts before after v k stands h =
-    put_stands variable_row k.state.variables k (in_state (with_record (Record.Variable v)) k) variable refl (alike k _) (regular_with_variables k _ (put_rises variable_cmp (by_both (λ (q : Variable). q.project) (λ q. q.key)) v k.state.variables stands.inside.regular.variables) stands.inside.regular)
-    10 UPDATE_VARIABLE.now INSERT_VARIABLE.now tests sets terms means variable_cmp (named v.project v.key) v (gives v) (λ q. same_named v.project v.key q.project q.key) refl ghosts before after stands h
+    put_stands variable_row k.state.variables k (in_state (with_record (Record.Variable v)) k) variable refl (alike k _) (regular_with_variables k _ (put_rises variable_cmp (by_both (λ (q : Variable). q.project) (λ q. q.key)) v k.state.variables stands.inside.regular.variables) stands.inside.regular) 10 UPDATE_VARIABLE.now INSERT_VARIABLE.now tests sets terms means variable_cmp (named v.project v.key) v (gives v) (λ q. same_named v.project v.key q.project q.key) refl ghosts before after stands h
 
-means_remove : MeansRemove the_schema 10 variable DELETE_VARIABLE.now tests
+removes : RemovesAlone 10 variable DELETE_VARIABLE.now tests
 unfolding understood everything
-means_remove = record { there = refl; apart = refl; delete_is = refl; delete_plain = (refl, refl) }
-
-whole : (params : Row) (db : Trees) → IsWholeStep the_schema variable tests params db
-unfolding everything
-whole params db = whole_if_alone the_schema variable tests params db (λ olds. refl)
+removes = record { means = record { there = refl; apart = refl; delete_is = refl; delete_plain = (refl, refl) }; alone = λ olds. refl }
 
 pub variable_removed : {S : Type 0} (g : Ghosts S) (old new : Held S) (owner : ℕ) (name : List ℕ) (k : Kept) → Stands k (state g old).now → RemovesUnreferred g [] DELETE_VARIABLE.now (named owner name) old new → Stands (in_state (without_record (Key.Variable owner name)) k) (state g new).now
 variable_removed g old new owner name k =
-    removed_owned g old new variable_row 10 variable tests (λ q. is_eq (ordering_then (nat_cmp q.project owner) (slice_cmp nat_cmp q.key name))) k.state.variables (named owner name) k (in_state (without_record (Key.Variable owner name)) k) refl refl (alike k _) (λ o. regular_with_variables k _ (ascending-filter _ _ k.state.variables o.variables) o) (λ q. same_named owner name q.project q.key) (λ r. refl)
-    DELETE_VARIABLE.now means_remove whole
+    removed_owned g old new variable_row 10 variable tests (λ q. is_eq (ordering_then (nat_cmp q.project owner) (slice_cmp nat_cmp q.key name))) k.state.variables (named owner name) k (in_state (without_record (Key.Variable owner name)) k) refl refl (alike k _) (λ o. regular_with_variables k _ (ascending-filter _ _ k.state.variables o.variables) o) (λ q. same_named owner name q.project q.key) (λ r. refl) DELETE_VARIABLE.now removes
 
 -- ---- two records with the same row
 
 same_variable : (p q : Variable) → variable_row p ≡ variable_row q → p ≡ q
-same_variable p q h =
-    let a : p.project ≡ q.project = cc in
-    let b : p.key ≡ q.key = cc in
-    let c : p.value ≡ q.value = cc in
-    λ i. record { project = a i; key = b i; value = c i }
+same_variable p q h = λ i. record { project = number_of (h i) 0; key = text_of (h i) 1; value = text_of (h i) 2 }
 
 -- ---- the queries that load
 
@@ -90,9 +81,4 @@ plain_select = means_select.plain
 
 pub variable_found : {S : Type 0} (g : Ghosts S) (old new : Held S) (k : Kept) → IsAt g k old → (owner : ℕ) (name : List ℕ) (found : Option Variable) → ShowsRecords (λ row x. row ≡ variable_row x) g SELECT_VARIABLE.now (number owner ∷ Text name ∷ []) old new (listed found)
     → found ≡ variable_at k.state owner name
-variable_found g old new k at owner name found h =
-    found_one (λ row x. row ≡ variable_row x) variable_row (λ x. (x.project == owner) && bytes_eq x.key name) k.state.variables (λ x y _ same. sym (same_variable y x same)) h.rows
-    (shows_passing variable_row 10 variable refl SELECT_VARIABLE.now tests (number owner ∷ Text name ∷ []) (λ im. equal Binary (column im 0) (number owner) && (equal Binary (column im 1) (Text name) && true)) (λ r. refl)
-    (λ x. (x.project == owner) && bytes_eq x.key name) (λ x. finds_named x.project owner x.key name) k k.state.variables refl h.rows
-    (λ r. refl) means_select (state g old) (state g new) at.now h.shown)
-    found h.read
+variable_found g old new k at owner name = one_found g old new (λ row x. row ≡ variable_row x) variable_row 10 variable refl (λ key r. refl) k k.state.variables refl (λ x y _ same. sym (same_variable y x same)) at.now SELECT_VARIABLE.now tests (number owner ∷ Text name ∷ []) means_select (λ im. equal Binary (column im 0) (number owner) && (equal Binary (column im 1) (Text name) && true)) (λ r. refl) (λ x. (x.project == owner) && bytes_eq x.key name) (λ x. finds_named x.project owner x.key name)
