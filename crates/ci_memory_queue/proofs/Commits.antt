@@ -30,14 +30,10 @@ sorted_stays classes s t board newest n job pipelines w = record {
 abbrev pub known : List Class → Noted → Known
 known classes q = record { classes = classes; fresh = q.fresh; newest = q.newest; newest_pipeline = q.newest_pipeline }
 
-covers_of : (o : Option Known) (q : Known) (k : Kept) → o ≡ Some q → IsRight o k → Covers q k.state k.board
-covers_of None q k is right = absurd (cc)
-covers_of (Some x) q k is right = let e : x ≡ q = cc in subst (λ (y : Known). Covers y k.state k.board) e right
-
 -- what was right before, by its parts
 pub right_after : (o : Option Known) (q : Known) (classes : List Class) (before after : Noted) (changes : List RowChange) (rows : List BoardRow) (indexes : List IndexChange) (jobs : List ℕ) (k : Kept)
     → o ≡ Some q → known classes before ≡ q → noted NewestReadyFirst changes rows before ≡ Some after
     → IsRight o k → Covers (known classes after) (written changes rows indexes (cleared jobs k)).state (written changes rows indexes (cleared jobs k)).board
 right_after o q classes before after changes rows indexes jobs k is parts notes right =
     covers_written NewestReadyFirst says_pending (λ r. refl) refl (λ s board newest n. IsSorted s classes newest n) (sorted_stays classes) (λ s board more newest n row w. w)
-    changes rows indexes jobs k before after notes (subst (λ (x : Known). Covers x k.state k.board) (sym parts) (covers_of o q k is right))
+    changes rows indexes jobs k before after notes (subst (λ (x : Known). Covers x k.state k.board) (sym parts) (subst (λ (p : Option Known). IsRight p k) is right))

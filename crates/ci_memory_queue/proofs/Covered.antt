@@ -1,19 +1,17 @@
 -- The jobs that wait, as they are noted, sorted into lines, and found there.
-use Rattle.std.proofs.Common.{◌≡◌, ℕ, ◌+◌, ◌<◌, ◌≤◌, Bool, true, List, [], ◌++◌, length, map, drop, slice_index_or, Contains, Option, Some, None, IfSome, Result, Ok, refl, sym}
+use Rattle.std.proofs.Common.{◌≡◌, ℕ, ◌≤◌, Bool, true, List, [], ◌++◌, map, Contains, Option, Some, None, IfSome, refl, sym}
 use Rattle.std.proofs.Common.{subst, ◌∙◌, inl, inr, ⊎_elim, arith}
 use Rattle.std.proofs.lemmas.Bool.{or_cases, false≢true}
-use Rattle.std.proofs.lemmas.List.{drop_more}
 use Rattle.ci_machine_steps.specs.Prelude.{Created, Pending, is_status, BoardRow, GroupOrder, OldestFirst, NewestReadyFirst, Kept, rows_with, State, waiting}
-use Rattle.ci_store.specs.Prelude.{row_at, LoadsBy}
+use Rattle.ci_store.specs.Prelude.{row_at}
 use Rattle.ci_machine.proofs.Keyed.{Has, has_from_contains, contains_from_has}
 use Rattle.ci_machine_steps.proofs.Behind.{has_left, has_right}
-use Rattle.ci_server_lookups.specs.Prelude.{StoreFault, IsKept, IsTurn}
-use Rattle.ci_server_lookups.proofs.Loading.{so}
+use Rattle.ci_server_lookups.specs.Prelude.{IsKept, IsTurn}
 use Rattle.ci_memory_queue.specs.declared.lines.Line.{Line}
 use Rattle.ci_memory_queue.specs.declared.lines.Place.{Place}
 use Rattle.ci_memory_queue.specs.KnownLines.{Known}
 use Rattle.ci_memory_queue.specs.Places.{counts, counts_at}
-use Rattle.ci_memory_queue.specs.LineCovers.{line_of, IsInLine, IsInTurn, jobs_of, IsSorted, Covers, IsRight, KeepsWaiting}
+use Rattle.ci_memory_queue.specs.LineCovers.{line_of, IsInLine, IsInTurn, jobs_of, IsSorted, Covers, KeepsWaiting}
 use Rattle.ci_memory_queue.specs.First.{IsInGroup, IsFirst}
 use Rattle.ci_memory_queue.specs.Notes.{Noted}
 use Rattle.ci_memory_queue.proofs.Filling.{has_with}
@@ -53,28 +51,15 @@ in_turn_more lines more place ready n keeps = of place.group
     of None has = tt
     of (Some g) has = keeps place.project g has
 
--- one more of the fresh jobs is in its line, if it waits
-pub sort_more : (k : Kept) (lines more : List Line) (xs : List ℕ) (i d newest low high : ℕ) → i < length xs → low ≤ high
-    → ((p : ℕ) (g : List ℕ) (ready : Bool) (n : ℕ) → IsInLine (line_of lines p g) ready n → IsInLine (line_of more p g) ready n)
-    → (counts_at OldestFirst k.board (slice_index_or xs i d) ≡ true → IsSorted k.state k.board more high (slice_index_or xs i d))
-    → Covers (record { lines = lines; fresh = drop i xs; newest = newest; newest_pipeline = low }) k.state k.board
-    → Covers (record { lines = more; fresh = drop (i + 1) xs; newest = newest; newest_pipeline = high }) k.state k.board
-sort_more k lines more xs i d newest low high within raised keeps sorted covers = λ job waits.
-    let was = covers job waits in (
-      was.0,
-      ⊎_elim
-          (λ c. ⊎_elim
-          (λ e. inr (subst (IsSorted k.state k.board more high) (sym e) (sorted (subst (λ n. counts_at OldestFirst k.board n ≡ true) e waits))))
-          (λ h. inl (contains_from_has job (drop (i + 1) xs) h))
-          (subst (Has job) (drop_more xs i d within) (has_from_contains job (drop i xs) c)))
-          (λ w. inr (record {
-            place = w.place;
-            placed = w.placed;
-            pipeline = (let l : w.place.pipeline ≤ low = w.pipeline in omega arith);
-            in_turn = in_turn_more lines more w.place (counts_at NewestReadyFirst k.board job) job (λ p g. keeps p g (counts_at NewestReadyFirst k.board job) job) w.in_turn;
-          }))
-          was.1,
-    )
+-- what is in line stays so where no line loses a job
+pub sorted_raised : (k : Kept) (lines more : List Line) (low high n : ℕ) → low ≤ high → ((p : ℕ) (g : List ℕ) (ready : Bool) (n : ℕ) → IsInLine (line_of lines p g) ready n → IsInLine (line_of more p g) ready n)
+    → IsSorted k.state k.board lines low n → IsSorted k.state k.board more high n
+sorted_raised k lines more low high n raised keeps w = record {
+  place = w.place;
+  placed = w.placed;
+  pipeline = (let l : w.place.pipeline ≤ low = w.pipeline in omega arith);
+  in_turn = in_turn_more lines more w.place (counts_at NewestReadyFirst k.board n) n (λ p g. keeps p g (counts_at NewestReadyFirst k.board n) n) w.in_turn;
+}
 
 -- ---- whose turn it is
 
@@ -113,30 +98,3 @@ module _ (k : Kept) (q : Known) (none : q.fresh ≡ []) (covers : Covers q k.sta
   still_covers job waits =
       let w = all_sorted q k.state k.board none covers job waits in
       ((covers job waits).0, inr (record { place = w.place; placed = w.placed; pipeline = w.pipeline; in_turn = keeps job w.place waits w.placed w.in_turn }))
-
--- the same, of lines by their parts
-module _ (k : Kept) (q parts : Known) (new : List Line) (is : parts ≡ q) (known : (q.fresh ≡ []) × Covers q k.state k.board) (keeps : KeepsWaiting k parts.lines new) where
-  known_parts : (parts.fresh ≡ []) × Covers parts k.state k.board
-  known_parts = subst (λ (x : Known). (x.fresh ≡ []) × Covers x k.state k.board) (sym is) known
-
-  pub parts_cover : Covers (record parts { lines = new }) k.state k.board
-  parts_cover = still_covers k parts known_parts.0 known_parts.1 new keeps
-
-  pub parts_turn : IsKept k → (order : GroupOrder) (project : ℕ) (group : List ℕ) (found : Option ℕ) → IsFirst order k project group (jobs_of order (line_of new project group)) found → IsTurn order (waiting k.state k.board) project group found
-  parts_turn = tells_turn k parts known_parts.0 known_parts.1 new keeps
-
--- ---- all of it
-
--- what is remembered or filled, and sorted, is what is known then
-module _ {T : Type 0} (honest : T → Type 0) (holds : T → Kept → Type 0) (leaves : T → Kept → Kept → Type 0) where
-  pub sorted_then : {A : Type 0} {P : Kept → A → Type 0} (old given : Option Known) (a b c d : T) (filling sorting : Result Known StoreFault) (filled known : Known) (r : Result A StoreFault) (x : A)
-      → given ≡ old → filling ≡ Ok filled → sorting ≡ Ok known → r ≡ Ok x
-      → LoadsBy honest holds leaves a b filling (λ k q. IsRight given k → Covers q k.state k.board)
-      → LoadsBy honest holds leaves b c sorting (λ k q. Covers filled k.state k.board → (q.fresh ≡ []) × Covers q k.state k.board)
-      → LoadsBy honest holds leaves c d r (λ k y. (known.fresh ≡ []) × Covers known k.state k.board → P k y)
-      → LoadsBy honest holds leaves a d (Ok x) (λ k y. IsRight old k → P k y)
-  sorted_then {P = P} old given a b c d filling sorting filled known r x same is was went fill sort turn =
-      so honest holds leaves (λ k y. IsRight old k → P k y) a c d (Ok tt) tt r x x refl went
-      (so honest holds leaves (λ k (u : Unit {0}). IsRight old k → (known.fresh ≡ []) × Covers known k.state k.board) a b c filling filled sorting known tt is was fill sort
-      (λ k of sorts right. sorts (of (subst (λ (o : Option Known). IsRight o k) (sym same) right))))
-      turn (λ k knows gives right. gives (knows right))

@@ -1,22 +1,21 @@
 -- The least of the pending jobs that a runner may be given, by classes, is the first of the queue that it may be given.
-use Rattle.std.proofs.Common.{◌≡◌, ℕ, ◌+◌, ◌≤◌, Bool, true, ◌&&◌, ◌==◌, cond, false, length, drop, slice_index_or, ◌<◌, List, [], ◌∷◌, map, filter, find, Option, Some, None}
-use Rattle.std.proofs.Common.{IfSome, option_map, option_and_then, Result, Ok, refl, sym, ap, subst, ◌∙◌, inl, inr, ⊎_elim, arith, eqb-true}
+use Rattle.std.proofs.Common.{◌≡◌, ℕ, ◌+◌, ◌≤◌, Bool, true, ◌&&◌, ◌==◌, cond, false, List, [], ◌∷◌, map, filter, find, Option, Some, None}
+use Rattle.std.proofs.Common.{IfSome, option_map, option_and_then, refl, sym, ap, subst, ◌∙◌, inl, inr, ⊎_elim, arith, eqb-true}
 use Rattle.std.proofs.lemmas.Bool.{and_parts, both_ways, cases_Bool, cond_both}
-use Rattle.std.proofs.lemmas.List.{drop_more}
 use Rattle.ci_machine_steps.specs.Prelude.{Job, Pipeline, BoardRow, QueuedJob, Runner, may_run, is_free, is_eligible, chosen, groups_in, claims_in, State, Kept, row_for}
 use Rattle.ci_machine_steps.specs.Prelude.{row_or_none, job_at, pipeline_at, is_pending, queued, queue, project_or_none, pipeline_or_none}
-use Rattle.ci_machine.proofs.Keyed.{Has, Rising, rising_filter, has_filter, filter_has, has_find, find_has, rising_from, has_from_contains, contains_from_has}
+use Rattle.ci_machine.proofs.Keyed.{Has, Rising, rising_filter, has_filter, filter_has, has_find, find_has, rising_from, has_from_contains}
 use Rattle.ci_machine_steps.proofs.Sound.{sound}
-use Rattle.ci_server_lookups.specs.Prelude.{StoreFault, IsKept, IsOffered}
-use Rattle.ci_store.specs.Prelude.{LoadsBy}
-use Rattle.ci_server_lookups.proofs.Loading.{so}
+use Rattle.ci_server_lookups.specs.Prelude.{IsKept, IsOffered}
 use Rattle.ci_server_lookups.specs.declared.search.Offer.{Offer}
 use Rattle.ci_memory_queue.specs.declared.queue.Asks.{Asks}
 use Rattle.ci_memory_queue.specs.declared.queue.Class.{Class}
 use Rattle.ci_memory_queue.specs.Known.{Known}
-use Rattle.ci_memory_queue.specs.Covers.{asked_by, asks_at, is_pending_at, IsAmong, IsSorted, Covers, IsRight}
+use Rattle.ci_memory_queue.specs.Covers.{asked_by, asks_at, is_pending_at, IsAmong, IsSorted, Covers}
 use Rattle.ci_memory_queue.specs.Offers.{UpTo, IsPendingOf, IsBest}
 use Rattle.ci_memory_queue.specs.Turns.{is_free_at}
+use Rattle.ci_memory_queue.specs.Notes.{Noted}
+use Rattle.ci_memory_queue.proofs.Commits.{known}
 use Rattle.ci_memory_queue.proofs.Found.{find_none}
 use Rattle.ci_memory_queue.proofs.Waits.{mapped_from}
 
@@ -121,72 +120,31 @@ pub all_sorted : (q : Known) (s : State) (board : List BoardRow) → q.fresh ≡
 all_sorted q s board none covers job pending =
     ⊎_elim (λ c. absurd (subst (Has job) none (has_from_contains job q.fresh c))) (λ w. w) (covers job pending).1
 
-sorted_among : (s : State) (classes more : List Class) (newest job : ℕ) → ((asks : Asks) → asks_at s job ≡ Some asks → IsAmong classes asks job → IsAmong more asks job) → IsSorted s classes newest job → IsSorted s more newest job
-sorted_among s classes more newest job among w = record { asks = w.asks; asked = w.asked; among = among w.asks w.asked w.among; pipeline = w.pipeline }
+-- what is in a class stays so where no class that has it loses it
+pub sorted_raised : (s : State) (classes more : List Class) (low high job : ℕ) → low ≤ high → ((asks : Asks) → asks_at s job ≡ Some asks → IsAmong classes asks job → IsAmong more asks job)
+    → IsSorted s classes low job → IsSorted s more high job
+sorted_raised s classes more low high job raised keeps w = record { asks = w.asks; asked = w.asked; among = keeps w.asks w.asked w.among; pipeline = raise (job_at s job) w.pipeline }
+  where
+    raise : (o : Option Job) → IfSome o (λ j. j.pipeline ≤ low) → IfSome o (λ j. j.pipeline ≤ high)
+    raise None h = tt
+    raise (Some j) h = let l : j.pipeline ≤ low = h in omega arith
 
 module _ (k : Kept) (q : Known) (classes : List Class) (none : q.fresh ≡ []) (covers : Covers q k.state k.board)
     (keeps : (asks : Asks) (job : ℕ) → is_pending_at k.board job ≡ true → asks_at k.state job ≡ Some asks → IsAmong q.classes asks job → IsAmong classes asks job) where
   -- so they are once others are taken out
   pub still_sorted : (job : ℕ) → is_pending_at k.board job ≡ true → IsSorted k.state classes q.newest_pipeline job
-  still_sorted job pending = sorted_among k.state q.classes classes q.newest_pipeline job (λ asks asked. keeps asks job pending asked) (all_sorted q k.state k.board none covers job pending)
+  still_sorted job pending = sorted_raised k.state q.classes classes q.newest_pipeline q.newest_pipeline job (omega arith) (λ asks asked. keeps asks job pending asked) (all_sorted q k.state k.board none covers job pending)
 
   pub still_covers : Covers (record q { classes = classes }) k.state k.board
   still_covers job pending = ((covers job pending).0, inr (still_sorted job pending))
 
--- the same, of a queue by its parts
-module _ (k : Kept) (q parts : Known) (given classes : List Class) (is : parts ≡ q) (same : given ≡ parts.classes) (known : (q.fresh ≡ []) × Covers q k.state k.board)
-    (keeps : (asks : Asks) (job : ℕ) → is_pending_at k.board job ≡ true → asks_at k.state job ≡ Some asks → IsAmong given asks job → IsAmong classes asks job) where
-  known_parts : (parts.fresh ≡ []) × Covers parts k.state k.board
-  known_parts = subst (λ (x : Known). (x.fresh ≡ []) × Covers x k.state k.board) (sym is) known
-
-  kept_parts : (asks : Asks) (job : ℕ) → is_pending_at k.board job ≡ true → asks_at k.state job ≡ Some asks → IsAmong parts.classes asks job → IsAmong classes asks job
-  kept_parts asks job pending asked w = keeps asks job pending asked (subst (λ (cs : List Class). IsAmong cs asks job) (sym same) w)
-
-  pub parts_cover : Covers (record parts { classes = classes }) k.state k.board
-  parts_cover = still_covers k parts classes known_parts.0 known_parts.1 kept_parts
-
-  pub parts_offer : IsKept k → (runner : Runner) (best : Option Offer) → IsBest k runner classes best → IsOffered k runner best
-  parts_offer kept runner best found = is_offered k kept runner classes parts.newest_pipeline (still_sorted k parts classes known_parts.0 known_parts.1 kept_parts) best found
-
--- ---- sorting in
-
-sorted_raised : (s : State) (classes : List Class) (newest more job : ℕ) → newest ≤ more → IsSorted s classes newest job → IsSorted s classes more job
-sorted_raised s classes newest more job l w = record { asks = w.asks; asked = w.asked; among = w.among; pipeline = raise (job_at s job) w.pipeline }
-  where
-    raise : (o : Option Job) → IfSome o (λ j. j.pipeline ≤ newest) → IfSome o (λ j. j.pipeline ≤ more)
-    raise None h = tt
-    raise (Some j) h = let g : j.pipeline ≤ newest = h in omega arith
-
--- one more of the fresh jobs is in its class, if it is pending
-pub sort_more : (k : Kept) (classes more : List Class) (xs : List ℕ) (i d newest low high : ℕ) → i < length xs → low ≤ high
-    → ((asks : Asks) (job : ℕ) → IsAmong classes asks job → IsAmong more asks job)
-    → (is_pending_at k.board (slice_index_or xs i d) ≡ true → IsSorted k.state more high (slice_index_or xs i d))
-    → Covers (record { classes = classes; fresh = drop i xs; newest = newest; newest_pipeline = low }) k.state k.board
-    → Covers (record { classes = more; fresh = drop (i + 1) xs; newest = newest; newest_pipeline = high }) k.state k.board
-sort_more k classes more xs i d newest low high within raised keeps sorted covers = λ job pending.
-    let was = covers job pending in (
-      was.0,
-      ⊎_elim
-          (λ c. ⊎_elim
-          (λ e. inr (subst (IsSorted k.state more high) (sym e) (sorted (subst (λ n. is_pending_at k.board n ≡ true) e pending))))
-          (λ h. inl (contains_from_has job (drop (i + 1) xs) h))
-          (subst (Has job) (drop_more xs i d within) (has_from_contains job (drop i xs) c)))
-          (λ w. inr (sorted_raised k.state more low high job raised (sorted_among k.state classes more low job (λ asks asked. keeps asks job) w)))
-          was.1,
+-- so it is known after a search of the classes, whose best is the offer
+pub searched : (k : Kept) (classes given new : List Class) (notes : Noted) → given ≡ classes → (notes.fresh ≡ []) × Covers (known classes notes) k.state k.board
+    → ((asks : Asks) (job : ℕ) → is_pending_at k.board job ≡ true → asks_at k.state job ≡ Some asks → IsAmong given asks job → IsAmong new asks job)
+    → Covers (known new notes) k.state k.board × (IsKept k → (runner : Runner) (best : Option Offer) → IsBest k runner new best → IsOffered k runner best)
+searched k classes given new notes same is keeps =
+    let kept : (asks : Asks) (job : ℕ) → is_pending_at k.board job ≡ true → asks_at k.state job ≡ Some asks → IsAmong classes asks job → IsAmong new asks job
+    = subst (λ (cs : List Class). (asks : Asks) (job : ℕ) → is_pending_at k.board job ≡ true → asks_at k.state job ≡ Some asks → IsAmong cs asks job → IsAmong new asks job) same keeps in (
+      still_covers k (known classes notes) new is.0 is.1 kept,
+      λ sound runner. is_offered k sound runner new notes.newest_pipeline (still_sorted k (known classes notes) new is.0 is.1 kept),
     )
-
--- ---- all of it
-
--- what is remembered or filled, and sorted, is what is known then
-module _ {T : Type 0} (honest : T → Type 0) (holds : T → Kept → Type 0) (leaves : T → Kept → Kept → Type 0) where
-  pub sorted_then : {A : Type 0} {P : Kept → A → Type 0} (old given : Option Known) (a b c d : T) (filling sorting : Result Known StoreFault) (filled known : Known) (r : Result A StoreFault) (x : A)
-      → given ≡ old → filling ≡ Ok filled → sorting ≡ Ok known → r ≡ Ok x
-      → LoadsBy honest holds leaves a b filling (λ k q. IsRight given k → Covers q k.state k.board)
-      → LoadsBy honest holds leaves b c sorting (λ k q. Covers filled k.state k.board → (q.fresh ≡ []) × Covers q k.state k.board)
-      → LoadsBy honest holds leaves c d r (λ k y. (known.fresh ≡ []) × Covers known k.state k.board → P k y)
-      → LoadsBy honest holds leaves a d (Ok x) (λ k y. IsRight old k → P k y)
-  sorted_then {P = P} old given a b c d filling sorting filled known r x same is was went fill sort offer =
-      so honest holds leaves (λ k y. IsRight old k → P k y) a c d (Ok tt) tt r x x refl went
-      (so honest holds leaves (λ k (u : Unit {0}). IsRight old k → (known.fresh ≡ []) × Covers known k.state k.board) a b c filling filled sorting known tt is was fill sort
-      (λ k of sorts right. sorts (of (subst (λ (o : Option Known). IsRight o k) (sym same) right))))
-      offer (λ k knows gives right. gives (knows right))

@@ -9,10 +9,7 @@ use Rattle.ci_memory_queue.specs.LineCovers.{IsInTurn, IsSorted, Covers, IsRight
 use Rattle.ci_memory_queue.specs.Notes.{Noted, noted}
 use Rattle.ci_memory_queue.specs.Places.{place_by, counts}
 use Rattle.ci_memory_queue.proofs.Noting.{covers_written}
-
-mapped_from : {A B : Type 0} (f : A → B) (o : Option A) (y : B) → option_map f o ≡ Some y → (x : A) × ((o ≡ Some x) × (f x ≡ y))
-mapped_from f None y e = absurd (cc)
-mapped_from f (Some x) y e = let same : f x ≡ y = cc in (x, (refl, same))
+use Rattle.ci_memory_queue.proofs.Waits.{mapped_from}
 
 -- where pipelines up to a number are found as before, a job of one of them has its place as before
 place_alike : (o : Option Job) (before after : ℕ → Option Pipeline) (place : Place) (newest : ℕ) → ((m : ℕ) → m ≤ newest → after m ≡ before m) → place.pipeline ≤ newest
@@ -44,14 +41,10 @@ sorted_by_row lines s board more newest n row w = record {
 abbrev pub known : List Line → Noted → Known
 known lines q = record { lines = lines; fresh = q.fresh; newest = q.newest; newest_pipeline = q.newest_pipeline }
 
-covers_of : (o : Option Known) (q : Known) (k : Kept) → o ≡ Some q → IsRight o k → Covers q k.state k.board
-covers_of None q k is right = absurd (cc)
-covers_of (Some x) q k is right = let e : x ≡ q = cc in subst (λ (y : Known). Covers y k.state k.board) e right
-
 -- what was right before, by its parts
 pub right_after : (o : Option Known) (q : Known) (lines : List Line) (before after : Noted) (changes : List RowChange) (rows : List BoardRow) (indexes : List IndexChange) (jobs : List ℕ) (k : Kept)
     → o ≡ Some q → known lines before ≡ q → noted OldestFirst changes rows before ≡ Some after
     → IsRight o k → Covers (known lines after) (written changes rows indexes (cleared jobs k)).state (written changes rows indexes (cleared jobs k)).board
 right_after o q lines before after changes rows indexes jobs k is parts notes right =
     covers_written OldestFirst (counts OldestFirst) (λ r. refl) refl (λ s board newest n. IsSorted s board lines newest n) (sorted_stays lines) (sorted_by_row lines)
-    changes rows indexes jobs k before after notes (subst (λ (x : Known). Covers x k.state k.board) (sym parts) (covers_of o q k is right))
+    changes rows indexes jobs k before after notes (subst (λ (x : Known). Covers x k.state k.board) (sym parts) (subst (λ (p : Option Known). IsRight p k) is right))

@@ -1,5 +1,5 @@
 -- What notes cover stays covered after a commit, where a job that is sorted stays so while its row, its record and older pipelines stay.
-use Rattle.std.proofs.Common.{◌≡◌, ◌⊎◌, ℕ, ◌≤◌, nat_lt, max, Bool, true, false, ◌==◌, List, [], ◌∷◌, ◌++◌, Contains, Option, Some, None, option_map, option_and_then, refl, sym, ap}
+use Rattle.std.proofs.Common.{◌≡◌, ◌⊎◌, ℕ, ◌≤◌, nat_lt, max, Bool, true, false, ◌==◌, List, [], ◌∷◌, ◌++◌, Contains, Option, Some, None, refl, sym, ap}
 use Rattle.std.proofs.Common.{subst, ◌∙◌, inl, inr, ⊎_elim, arith, eqb-true}
 use Rattle.std.proofs.lemmas.Bool.{cond_both, cases_Bool, eqb-false, false≢true, ltb-true}
 use Rattle.ci_machine_steps.specs.Prelude.{BoardRow, GroupOrder, Job, Pipeline, IndexChange, Key, Record, RowChange, Put, Append, Remove, State, put, without, without_all}
@@ -11,6 +11,7 @@ use Rattle.ci_server_lookups.proofs.Changes.{state_stays, board_stays}
 use Rattle.ci_memory_queue.specs.Notes.{Noted, with_note, job_noted, record_noted, removal_noted, change_noted, changes_noted, row_noted, rows_noted, noted}
 use Rattle.ci_memory_queue.specs.Places.{counts_as}
 use Rattle.ci_memory_queue.proofs.Found.{put_other, put_same, without_other, without_same}
+use Rattle.ci_memory_queue.proofs.Waits.{then_from, mapped_from}
 
 same_or_not : (n m : ℕ) → (n ≡ m) ⊎ (n ≡ m → ⊥)
 same_or_not n m = ⊎_elim (λ e. inl (eqb-true n m e)) (λ e. inr (eqb-false n m e)) (cases_Bool (n == m))
@@ -20,15 +21,6 @@ is_noted fresh job n e = contains_from_has n (fresh ++ job ∷ []) (has_right n 
 
 stays_noted : (fresh : List ℕ) (job n : ℕ) → Contains fresh n → Contains (fresh ++ job ∷ []) n
 stays_noted fresh job n c = contains_from_has n (fresh ++ job ∷ []) (has_left n fresh (job ∷ []) (has_from_contains n fresh c))
-
--- what came behind another came of what that gave
-then_some : {A B : Type 0} (f : A → Option B) (o : Option A) (y : B) → option_and_then f o ≡ Some y → (x : A) × ((o ≡ Some x) × (f x ≡ Some y))
-then_some f None y e = absurd (cc)
-then_some f (Some x) y e = (x, (refl, e))
-
-map_some : {A B : Type 0} (f : A → B) (o : Option A) (y : B) → option_map f o ≡ Some y → (x : A) × ((o ≡ Some x) × (f x ≡ y))
-map_some f None y e = absurd (cc)
-map_some f (Some x) y e = let is : f x ≡ y = cc in (x, (refl, is))
 
 abbrev by_job : BoardRow → ℕ
 by_job r = r.job
@@ -108,7 +100,7 @@ module _
     covers_changes : (cs : List RowChange) (q p : Noted) (s : State) (board : List BoardRow) → changes_noted cs q ≡ Some p → IsCovered q s board → IsCovered p (applied cs s) board
     covers_changes [] q p s board e covers = let is : q ≡ p = cc in subst (λ (x : Noted). IsCovered x s board) is covers
     covers_changes (c ∷ cs) q p s board e covers =
-        let mid = then_some (changes_noted cs) (change_noted c q) p e in
+        let mid = then_from (changes_noted cs) (change_noted c q) p e in
         covers_changes cs mid.0 p (changed c s) board mid.1.1 (covers_change c q mid.0 s board mid.1.0 covers)
 
     -- ---- rows
@@ -164,7 +156,7 @@ module _
         → IsCovered q k.state k.board → IsCovered p (written changes rows indexes (cleared jobs k)).state (written changes rows indexes (cleared jobs k)).board
     covers_written changes rows indexes jobs k q p is covers =
         let board = without_all by_job jobs k.board in
-        let mid = map_some (rows_noted order rows) (changes_noted changes q) p is in
+        let mid = mapped_from (rows_noted order rows) (changes_noted changes q) p is in
         let after : Kept = record k { state = applied changes k.state; board = put_rows rows board } in
         let all : IsCovered (rows_noted order rows mid.0) after.state after.board
         = covers_rows rows mid.0 (applied changes k.state) board (covers_changes changes q mid.0 k.state board mid.1.0 (covers_cleared jobs q k.state k.board covers)) in

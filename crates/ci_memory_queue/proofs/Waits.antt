@@ -50,7 +50,7 @@ own_turn NewestReadyFirst n = not_less_itself n
 
 -- ---- what a job asks
 
-then_from : {A B : Type 0} (f : A → Option B) (o : Option A) (y : B) → option_and_then f o ≡ Some y → (x : A) × ((o ≡ Some x) × (f x ≡ Some y))
+pub then_from : {A B : Type 0} (f : A → Option B) (o : Option A) (y : B) → option_and_then f o ≡ Some y → (x : A) × ((o ≡ Some x) × (f x ≡ Some y))
 then_from f None y e = absurd (cc)
 then_from f (Some x) y e = (x, (refl, e))
 

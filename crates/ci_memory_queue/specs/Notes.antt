@@ -1,5 +1,5 @@
 -- What is noted of jobs at a commit: those which may have come to count since they were last looked up, or to ask something else.
-use Rattle.std.specs.Prelude.{ℕ, nat_lt, max, List, [], ◌∷◌, ◌++◌, Option, Some, None, if◌then◌else◌, option_map, option_and_then}
+use Rattle.std.specs.Prelude.{◌≡◌, ◌⊎◌, ◌≤◌, ℕ, Bool, true, Contains, nat_lt, max, List, [], ◌∷◌, ◌++◌, Option, Some, None, if◌then◌else◌, option_map, option_and_then}
 use Rattle.ci_machine_steps.specs.Prelude.{BoardRow, GroupOrder, Job, Pipeline, Key, Record, RowChange, Put, Append, Remove}
 use Rattle.ci_memory_queue.specs.Places.{counts_as}
 
@@ -8,6 +8,10 @@ pub record Noted : Type 0 where
   pub fresh : List ℕ  -- jobs that aren't sorted yet
   pub newest : ℕ  -- no job that counts has a greater number
   pub newest_pipeline : ℕ  -- no job that is sorted is of a pipeline with a greater number
+
+-- each job that counts is noted as fresh or is where it belongs, and none of them has a greater number than the newest
+abbrev pub AreKnown : (ℕ → Bool) → (ℕ → ℕ → Type 0) → Noted → Type 0
+AreKnown counts IsPlaced q = (job : ℕ) → counts job ≡ true → (job ≤ q.newest) × (Contains q.fresh job ⊎ IsPlaced q.newest_pipeline job)
 
 abbrev pub with_note : Noted → ℕ → Noted
 with_note q job = record q { fresh = q.fresh ++ job ∷ [] }

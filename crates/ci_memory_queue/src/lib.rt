@@ -12,4 +12,5 @@ mod notes;
 pub mod offer;
 mod pending;
 pub mod queue;
+mod sorting;
 mod turns;

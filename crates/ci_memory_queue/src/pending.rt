@@ -31,7 +31,7 @@ fn if_pending(row: BoardRow) -> Option<BoardRow>
 }
 
 /// Is it the status of a pending job?
-pub fn is_pending(status: Status) -> bool
+fn is_pending(status: Status) -> bool
     ensures { result ≡ is_status status Pending }
 {
     matches!(status, Status::Pending)

@@ -1,14 +1,63 @@
-//! Jobs are put into the lines of their groups.
+//! Jobs that wait are put into the lines of their groups.
 
 ghost use Rattle.std.specs.Prelude.{◌≡◌, ◌<◌, ℕ, Bool, List, None, length, IfSome, IfNone, OnOk};
 ghost use Rattle.ci_memory_queue.specs.declared.lines.Line.{Line};
-ghost use Rattle.ci_memory_queue.specs.LineCovers.{is_line_of, line_of, IsIn, IsInLine, IsFirstAt};
+ghost use Rattle.ci_machine_steps.specs.Prelude.{OldestFirst};
+ghost use Rattle.ci_memory_queue.specs.Places.{counts_at};
+ghost use Rattle.ci_memory_queue.specs.LineCovers.{is_line_of, line_of, IsIn, IsInLine, IsInTurn, IsFirstAt, IsSorted};
 
 use crate::classes::put;
-use crate::lines::Line;
+use crate::lines::places::{counts, place_of};
+use crate::lines::{Line, Place};
+use crate::sorting::Sorts;
+use ci_machine::records::GroupOrder;
 use ci_machine::text::Text;
+use ci_store::fault::StoreFault;
+use ci_store::store::Store;
 use std::alloc::{AllocError, Global};
 use std::collections::BTreeSet;
+
+impl Sorts for Line {
+    ghost counts = { λ k n. counts_at OldestFirst k.board n };
+
+    ghost IsPlaced = { λ k lines newest n. IsSorted k.state k.board lines newest n };
+
+    fn sort_in<T: Store>(
+        alloc: Global,
+        store: &mut T,
+        lines: &mut Vec<Line>,
+        newest_pipeline: &mut u64,
+        job: u64,
+    ) -> Result<(), StoreFault> {
+        let row = store.row(job)?;
+        if !counts(GroupOrder::OldestFirst, &row) {
+            return Ok(());
+        }
+        let place = place_of(store, job)?;
+        *newest_pipeline = (*newest_pipeline).max(place.pipeline);
+        let is_ready = counts(GroupOrder::NewestReadyFirst, &row);
+        put_if_grouped(alloc, lines, place, is_ready, job)?;
+        Ok(())
+    }
+}
+
+/// Puts a job with this place into the line of its group, if it has one.
+fn put_if_grouped(
+    alloc: Global,
+    lines: &mut Vec<Line>,
+    place: Place,
+    is_ready: bool,
+    job: u64,
+) -> Result<(), AllocError>
+    ensures there { OnOk result (IsInTurn lines.new.items place is_ready job) }
+    ensures keeps { (p : ℕ) (g : List ℕ) (ready : Bool) (n : ℕ) → IsInLine (line_of lines.old.items p g) ready n → IsInLine (line_of lines.new.items p g) ready n }
+{
+    let Place { project, group, .. } = place;
+    match group {
+        Some(group) => put_in(alloc, lines, project, group, is_ready, job),
+        None => Ok(()),
+    }
+}
 
 /// Puts a job into the line of a group of a project, or into a new one: among those that are ready too, if it is. Errors: memory was
 /// refused.

@@ -1,17 +1,29 @@
-use Rattle.ci_server_lookups.proofs.Loading.{says}
-use Rattle.ci_memory_queue.proofs.Eligible.{sorted_then}
+use Rattle.std.proofs.Common.{Ok, List, refl, sym, subst, arith}
+use Rattle.std.proofs.lemmas.List.{with_items_is}
+use Rattle.ci_server_lookups.specs.Prelude.{IsKept, IsOffered}
+use Rattle.ci_server_lookups.proofs.Loading.{says, so, loads_both}
+use Rattle.ci_memory_queue.specs.declared.queue.Class.{Class}
+use Rattle.ci_memory_queue.specs.Known.{Known}
+use Rattle.ci_memory_queue.specs.Covers.{Covers, IsRight}
+use Rattle.ci_memory_queue.proofs.Commits.{known}
+use Rattle.ci_memory_queue.proofs.Eligible.{searched}
+use Rattle.ci_memory_queue.proofs.Sorts.{sorted_then}
 use Rattle.ci_memory_queue.proofs.offer.first_offer.Goals as goal
 
--- the offer is that of what is known then
-pub returns-clause-offered : goal.returns-clause-offered
-returns-clause-offered g c =
-    says g.T.Store.honest g.T.Store.holds g.T.Store.leaves _ _ _ _
-    (sorted_then g.T.Store.honest g.T.Store.holds g.T.Store.leaves c.args.queue.now c.take.result _ _ _ _ c.known_or_filled.result c.sorted.result c.in_ok-known.known c.in_ok-known-2.known c.offer_in.result c.in_ok-found.found
-    c.take.ensures.value c.in_ok-known.was c.in_ok-known-2.was c.in_ok-found.was c.known_or_filled.ensures c.sorted.ensures c.offer_in.ensures.offered)
-    (λ k found is its right kept. its right kept)
-
--- and this is remembered
-pub returns-clause-right : goal.returns-clause-right
-returns-clause-right g c =
-    (sorted_then g.T.Store.honest g.T.Store.holds g.T.Store.leaves c.args.queue.now c.take.result _ _ _ _ c.known_or_filled.result c.sorted.result c.in_ok-known.known c.in_ok-known-2.known c.offer_in.result c.in_ok-found.found
-    c.take.ensures.value c.in_ok-known.was c.in_ok-known-2.was c.in_ok-found.was c.known_or_filled.ensures c.sorted.ensures c.offer_in.ensures.covers).answered
+-- the best of the classes is the offer, and what is known then is remembered
+pub returns : goal.returns
+returns g c =
+    let classes = c.best_of.new.classes in
+    let notes = c.in_ok-notes.notes in
+    let all = so g.T.Store.honest g.T.Store.holds g.T.Store.leaves
+    (λ k found. IsRight c.args.queue.now k → Covers (known classes notes) k.state k.board × (IsKept k → IsOffered k c.args.runner.now found)) _ _ _ (Ok tt) tt c.best_of.result c.in_ok-found.found c.in_ok-found.found refl c.in_ok-found.was
+    (sorted_then g.T.Store.honest g.T.Store.holds g.T.Store.leaves (λ k q. Covers q k.state k.board) _ _ c.args.queue.now c.take.result _ _ _ c.known_or_filled.result c.in_ok-classes.field-0 c.sort_fresh.result notes
+    c.take.ensures.value c.in_ok-classes.was c.in_ok-notes.was c.known_or_filled.ensures (λ k covers. subst (λ (x : Known). Covers x k.state k.board) (sym c.classes.view_is) covers) c.sort_fresh.ensures)
+    (loads_both g.T.Store.honest g.T.Store.holds g.T.Store.leaves _ _ c.best_of.result c.best_of.ensures.keeps c.best_of.ensures.best)
+    (λ k sorted its right.
+    let done = searched k c.sort_fresh.new.sorted.items c.as_mut_slice.result.now classes notes c.as_mut_slice.ensures.value (sorted right) its.0 in
+    (done.0, λ kept. done.1 kept c.args.runner.now c.in_ok-found.found (its.1 kept))) in
+    record {
+      offered = says g.T.Store.honest g.T.Store.holds g.T.Store.leaves _ _ _ _ all (λ k found is both right. (both right).1);
+      right = λ h k held right. subst (λ (cs : List Class). Covers (known cs notes) k.state k.board) (sym (with_items_is c.sort_fresh.new.sorted classes (omega arith))) (all.answered h k held right).0;
+    }
