@@ -50,6 +50,7 @@ pub fn a_mode_is_of_its_group_alone()
 {}
 
 /// The worked examples come out of the definitions, byte for byte.
+#[tactic(auto, unfolding(crate::proofs::Computed::digits, crate::proofs::Computed::serde_json_on_literals, crate::proofs::Computed::hex_on_literals))]
 pub fn worked_examples()
     ensures project { reply_text project_added ≡ codes "{\"id\":1,\"token\":\"p1-abababababababababababababababab\"}" }
     ensures runner { reply_text runner_added ≡ codes "{\"id\":1,\"token\":\"r1-abababababababababababababababab\"}" }
@@ -100,6 +101,7 @@ pub fn variable_examples()
 {}
 
 /// What the details of faults print, worked out by hand.
+#[tactic(auto, unfolding(crate::proofs::Computed::digits))]
 pub fn detail_examples()
     ensures code { detail_text (Detail.Code (FaultCode.G 3)) ≡ codes "G3" }
     ensures keyword { detail_text (Detail.Keyword (FaultCode.K 2) (codes "image")) ≡ codes "K2 image" }
@@ -155,6 +157,7 @@ pub fn lease_examples()
 {}
 
 /// Traces, final states and sweeps worked out by hand, of an attempt granted at 1000 with a limit of an hour.
+#[tactic(auto, unfolding(crate::proofs::Computed::digits, crate::proofs::Computed::serde_json_on_literals))]
 pub fn trace_examples()
     ensures first_piece { (sent leased 0 (codes "hello") 1119).0 ≡ accepted_to 5 }
     ensures repeated_piece { sent hello 0 (codes "hello") 1119 ≡ (not_accepted (PieceFault.WrongOffset 5), []) }
@@ -184,6 +187,7 @@ pub fn trace_examples()
 
 /// A pipeline is cancelled: at once all its jobs that can be, with the live attempt of one, and not the one that was skipped.
 /// Where one job alone is cancelled, the one that waits for it is skipped.
+#[tactic(auto, unfolding(crate::proofs::Computed::digits, crate::proofs::Computed::serde_json_on_literals))]
 pub fn cancel_examples()
     ensures before { AreBoard four four_board }
     ensures all { Does four four_board (Request.CancelPipeline (pipeline_query 1 1 (codes "p"))) 1100 seed all_cancelled }
@@ -206,6 +210,7 @@ pub fn cancel_examples()
 {}
 
 /// A job that failed is tried again: those that were skipped since are taken back, and one that ran since stays.
+#[tactic(auto, unfolding(crate::proofs::Computed::digits, crate::proofs::Computed::serde_json_on_literals))]
 pub fn retry_examples()
     ensures before { AreBoard five five_board }
     ensures retried { Does five five_board (Request.RetryJob (query 1 1 (codes "p"))) 1100 seed first_retried }
@@ -215,6 +220,7 @@ pub fn retry_examples()
 {}
 
 /// A manual job is played, succeeds, and is tried again: it doesn't wait for a user then.
+#[tactic(auto, unfolding(crate::proofs::Computed::digits, crate::proofs::Computed::serde_json_on_literals))]
 pub fn play_examples()
     ensures before { AreBoard two two_board }
     ensures played { Does two two_board (Request.Play (query 1 1 (codes "p"))) 1100 seed hand_played }
@@ -228,6 +234,7 @@ pub fn play_examples()
 /// What an act on a job with a resource group answers is told of the state after it, and so is what is asked then. Three pipelines have a job each
 /// of one group, which takes the oldest first. The second waits for the first: it is cancelled, and waits no more. Where the first is cancelled,
 /// the second waits no more. The third succeeded: it is tried again, and waits for the first.
+#[tactic(auto, unfolding(crate::proofs::Computed::digits, crate::proofs::Computed::serde_json_on_literals))]
 pub fn shown_examples()
     ensures before { AreBoard oldest all_wait }
     ensures waits { reply_text (job_shown oldest all_wait (query 1 2 (codes "p"))) ≡ codes "{\"id\":2,\"name\":\"ship\",\"stage\":\"test\",\"status\":\"waiting_for_resource\"}" }
@@ -258,6 +265,7 @@ pub fn new_runner_examples()
 {}
 
 /// Which runner a pending job of project 1 is given to: by its tags, by the runner's project, and not while the runner is paused.
+#[tactic(auto, unfolding(crate::proofs::Computed::digits, crate::proofs::Computed::serde_json_on_literals))]
 pub fn runner_examples()
     ensures one_tag { answer_of (waits (codes "linux" ∷ codes "arm" ∷ []) (tagged (codes "linux" ∷ []))) (rows Status.Pending) ≡ HttpStatus.NoContent }
     ensures all_tags { answer_of (waits (codes "linux" ∷ codes "arm" ∷ []) (tagged (codes "arm" ∷ codes "linux" ∷ codes "x" ∷ []))) (rows Status.Pending) ≡ HttpStatus.Created }
@@ -280,6 +288,7 @@ pub fn limit_examples()
 
 /// Two pipelines of `main`, each with a job that has the resource group `prod`: while the first job's attempt is live the second waits, and
 /// a newer pipeline makes the first redundant only if its job is interruptible.
+#[tactic(auto, unfolding(crate::proofs::Computed::digits, crate::proofs::Computed::serde_json_on_literals, crate::proofs::Computed::hex_on_literals))]
 pub fn group_examples()
     ensures first { (shipping false (codes "main")).attempts ≡ record (attempt 1000 AttemptState.Live) { token = codes "j1-abababababababababababababababab" } ∷ [] }
     ensures held { holders (shipping false (codes "main")) ≡ record { project = 1; group = codes "prod"; attempt = 1 } ∷ [] }
@@ -302,6 +311,7 @@ pub fn group_examples()
 /// goes first, or the oldest, and a mode of another project counts for nothing. Of two pipelines the newer one's job is pending while the older
 /// one's is created yet: by `oldest_first` it waits for that, and in no other mode; once both are pending the mode decides. The rows are those
 /// of the states, in every mode: no status depends on it. A mode is set, in the place of the one that was, and goes.
+#[tactic(auto, unfolding(crate::proofs::Computed::digits, crate::proofs::Computed::serde_json_on_literals))]
 pub fn mode_examples()
     ensures all_pending { AreBoard (three [] []) (third_is Status.Pending) }
     ensures third_runs { AreBoard (three [] (third_tried AttemptState.Live)) (third_is Status.Running) }
@@ -341,6 +351,7 @@ pub fn mode_examples()
 /// Two finished pipelines, made at 1000 and at 90000: of those made before the second day the first goes, with its jobs, their variables, what
 /// they wait for, their attempts and their traces, and then there is none. No next number changes. Of two that may go the one of least
 /// number goes; one that was made at the very moment stays, and so does one with a job that runs or is pending.
+#[tactic(auto, unfolding(crate::proofs::Computed::digits, crate::proofs::Computed::serde_json_on_literals))]
 pub fn prune_examples()
     ensures before { AreBoard both_done both_board }
     ensures pruned { Does both_done both_board (Request.PruneOne second_day) 90060 seed first_pruned }
