@@ -7,7 +7,7 @@ use Rattle.ci_machine_steps.specs.Prelude.{WrongOffset, TraceFull, Runner, Queue
 use Rattle.ci_machine_steps.specs.Prelude.{NewFile, NewVariable, VariableQuery, NewMode, GroupQuery, NewPipeline, PipelineQuery, Event, Request, AddProject, AddRunner, PauseRunner}
 use Rattle.ci_machine_steps.specs.Prelude.{SetFile, SetVariable, DeleteVariable, SetMode, ShowMode, CreatePipeline, ShowPipeline, AskJob, UpdateJob, AppendTrace, ShowJob}
 use Rattle.ci_machine_steps.specs.Prelude.{ShowTrace, Read, Play, CancelJob, CancelPipeline, RetryJob, PruneOne, Report, JobUpdate, TracePart, JobQuery, Subject, ReadQuery, Seed}
-use Rattle.ci_machine_steps.specs.Prelude.{Code, M1, M2, M3, M4, M5, M6, M7, M8, M9, M10, M11, M12, M13, M14, M15, M16, M17, H1, H2, H3, H4, H5, H6, H7, H8, Detail, K, Body, Json}
+use Rattle.ci_machine_steps.specs.Prelude.{Code, M1, M2, M3, M4, M5, M10, M11, M12, M13, M14, M15, M16, M17, Detail, K, Body, Json}
 use Rattle.ci_machine_steps.specs.Prelude.{Answer, Swept, RowChange, Put, Remove, Record, Key, is_name, State, applied, jobs_of, attempts_of, facts_of, rows_of, status_for}
 use Rattle.ci_machine_steps.specs.Prelude.{MAX_NUMBER, printed_status, job_data, pipeline_data, Plan, refused, faulted, fine, asked_project, made_project, add_project, made_runner}
 use Rattle.ci_machine_steps.specs.Prelude.{are_names, lacks_project, add_runner, runner_paused, pause_runner, file_set, set_file, SetsFile, count_with, variable_set, set_variable}
@@ -70,7 +70,8 @@ given_in s new = given_by new (project_variables s new.project)
 abbrev pub OfCreation : State → (Plan → Type 0) → NewPipeline → ℕ → Type 0
 OfCreation s P new now =
     (project : Project) (text : List ℕ) (laid : Layout) (claims : List Claim) (rows : List Row) → of_asked s new.token new.project ≡ Ok project → Has project s.projects → project.id ≡ new.project → project.file ≡ Some text
-    → IsLaidOut text (given_in s new) (Ok laid) → P (pipeline_created s.next.job (creation s.next.pipeline s.next.job new (given_in s new) now laid) claims rows)
+    → IsLaidOut text (given_in s new) (Ok laid) → lacks_numbers s.next.pipeline s.next.job (length laid.plan.jobs) ≡ false
+    → P (pipeline_created s.next.job (creation s.next.pipeline s.next.job new (given_in s new) now laid) claims rows)
 
 module _ (s : State) (P : Plan → Type 0) (of_code : (c : Code) → IsMachineCode c → P (refused c)) (of_fault : (d : Detail) → P (faulted d)) where
   file_said : (project : Project) (text : List ℕ) → ((c : Config) → P (file_set project text c)) → (said : Result Config Detail) → P (set_file project text said)
@@ -131,18 +132,18 @@ module _ (s : State) (P : Plan → Type 0) (of_code : (c : Code) → IsMachineCo
 
   -- ---- a pipeline is to be made
 
-  unless : (new : NewPipeline) (now : ℕ) (plan : Plan) (laid : Layout) → ((claims : List Claim) (rows : List Row) → P (pipeline_created s.next.job (creation s.next.pipeline s.next.job new (given_in s new) now laid) claims rows)) → (lacks : Bool)
-      → MakesUnless lacks s s.next.job (creation s.next.pipeline s.next.job new (given_in s new) now laid) plan → P plan
-  unless new now plan laid h true is = subst P (sym is) (of_code M15 tt)
-  unless new now plan laid h false is =
+  unless : (new : NewPipeline) (now : ℕ) (plan : Plan) (laid : Layout) → let lacking = lacks_numbers s.next.pipeline s.next.job (length laid.plan.jobs) in let made = creation s.next.pipeline s.next.job new (given_in s new) now laid in
+      (lacking ≡ false → (claims : List Claim) (rows : List Row) → P (pipeline_created s.next.job made claims rows)) → (lacks : Bool) → lacking ≡ lacks → MakesUnless lacks s s.next.job made plan → P plan
+  unless new now plan laid h true e is = subst P (sym is) (of_code M15 tt)
+  unless new now plan laid h false e is =
       let t = applied (creation_changes s.next.job (creation s.next.pipeline s.next.job new (given_in s new) now laid)) s in
-      subst P (sym is.2) (h (claims_in t is.0 s.next.pipeline) (rows_of t is.0 s.next.pipeline))
+      subst P (sym is.2) (h e (claims_in t is.0 s.next.pipeline) (rows_of t is.0 s.next.pipeline))
 
   makes : (new : NewPipeline) (now : ℕ) (plan : Plan) → OfCreation s P new now → (project : Project) → of_asked s new.token new.project ≡ Ok project → Asked s new.project (Ok project)
       → (text : List ℕ) → project.file ≡ Some text → (laid : Result Layout Detail) → IsLaidOut text (given_in s new) laid → Makes s new (given_in s new) now laid plan → P plan
   makes new now plan h project is_project asked text file (Err fault) lays is = subst P (sym is) (of_fault fault)
   makes new now plan h project is_project asked text file (Ok laid) lays is =
-      unless new now plan laid (λ claims rows. h project text laid claims rows is_project asked.0 asked.1 file lays) (lacks_numbers s.next.pipeline s.next.job (length laid.plan.jobs)) is
+      unless new now plan laid (λ fits claims rows. h project text laid claims rows is_project asked.0 asked.1 file lays fits) (lacks_numbers s.next.pipeline s.next.job (length laid.plan.jobs)) refl is
 
   reads : (new : NewPipeline) (now : ℕ) (plan : Plan) → OfCreation s P new now → (project : Project) → of_asked s new.token new.project ≡ Ok project → Asked s new.project (Ok project)
       → (file : Option (List ℕ)) → project.file ≡ file → Creates s new (given_in s new) now (file_or_none file) plan → P plan
@@ -450,134 +451,74 @@ does s board P (RetryJob query) each now seed plan is = of_retry s board P each.
 does s board P (CancelPipeline query) each now seed plan is = of_cancel s board P each.refused each.acted query plan is
 does s board P (PruneOne before) each now seed plan is = subst P (sym is) (prunes s board (PruneOne before) P each before refl (prunable_in s board before) refl)
 
--- where the plan is a refusal, it changes nothing
-abbrev Keeps : Plan → Type 0
-Keeps plan = IsRefusal (Answer.Reply plan.0) → plan.1 ≡ []
+-- where the plan is a refusal, it changes nothing; and its reply says neither M16 nor M17
+abbrev IsSafe : Answer × List RowChange → Type 0
+IsSafe does = (IsRefusal does.0 → does.1 ≡ []) × (outcome_of does.0 ≡ Stepped)
 
-keeps : (s : State) (board : List BoardRow) (request : Request) → Each s board request Keeps
-keeps s board request = record {
-  refused = λ c _ _. refl;
-  faulted = λ d _. refl;
-  project = λ name seed refused. absurd (false≢true refused);
-  runner = λ new seed refused. absurd (false≢true refused);
-  paused = λ runner paused has refused. absurd (false≢true refused);
-  file = λ project text c has refused. absurd (false≢true refused);
-  variable = λ project new refused. absurd (false≢true refused);
-  gone = λ v refused. absurd (false≢true refused);
-  mode = λ new is m refused. absurd (false≢true refused);
-  unordered = λ new is project group refused. absurd (false≢true refused);
-  mode_shown = λ group order _. refl;
-  pipeline = λ new now is project text laid claims rows asked has named file lays refused. absurd (false≢true refused);
-  nothing = λ _. refl;
-  granted = λ runner job q variables now seed h k m e f refused. absurd (false≢true refused);
-  turned_away = λ fault _. refl;
-  heard = λ a seen has refused. absurd (false≢true refused);
-  ended = λ a state has refused. absurd (false≢true refused);
-  misplaced = λ fault _. refl;
-  grown = λ a bytes now size has refused. absurd (false≢true refused);
-  pipeline_shown = λ p claims jobs facts rows _. refl;
-  shown = λ claims project job status _. refl;
-  traced = λ trace _. refl;
-  read = λ body _. refl;
-  acted = λ text changes act refused. absurd (false≢true refused);
-  pruned = λ p before asks found refused. absurd (false≢true refused);
-}
+abbrev IsSafePlan : Plan → Type 0
+IsSafePlan plan = IsSafe (Answer.Reply plan.0, plan.1)
 
--- a sweep that ends and cancels nothing changes nothing, and it refuses nothing
-swept_keeps : (due : Option Lease) (redundant : Option Pipeline) (attempts : List Attempt) (jobs : List Job) → IsRefusal (Answer.Swept (sweep due redundant attempts jobs).0) → (sweep due redundant attempts jobs).1 ≡ []
-swept_keeps (Some l) redundant attempts jobs refused = absurd refused
-swept_keeps None (Some p) attempts jobs refused = absurd refused
-swept_keeps None None attempts jobs refused = refl
-
-refused_keeps : (s : State) (board : List BoardRow) (e : Event) (now : ℕ) (seed : Seed) (a : Answer) (changes : List RowChange) → Happens s board e now seed a changes → IsRefusal a → changes ≡ []
-refused_keeps s board (Event.Request request) now seed (Answer.Reply reply) changes is refused = does s board Keeps request (keeps s board request) now seed (reply, changes) is refused
-refused_keeps s board Event.Sweep now seed (Answer.Swept swept) changes is refused =
-    let P : Swept × List RowChange → Type 0 = λ plan. IsRefusal (Answer.Swept plan.0) → plan.1 ≡ [] in
-    subst P (sym is) (swept_keeps (first_due (leases s) now) (redundant_in s board) s.attempts (cancellable_in s board (redundant_in s board))) refused
-refused_keeps s board (Event.Request request) now seed (Answer.Swept swept) changes is refused = absurd is
-refused_keeps s board Event.Sweep now seed (Answer.Reply reply) changes is refused = absurd is
-
-pub unchanged : (s t : State) (e : Event) (now : ℕ) (seed : Seed) (a : Answer) → Step s e now seed a t → IsRefusal a → t ≡ s
-unchanged s t e now seed a step refused = step.state ∙ ap (λ cs. applied cs s) (refused_keeps s step.before e now seed a step.changes step.happens refused)
-
--- the machine answers neither M16 nor M17
-abbrev IsStep : Plan → Type 0
-IsStep plan = outcome_of (Answer.Reply plan.0) ≡ Stepped
-
-steps : (s : State) (board : List BoardRow) (request : Request) → Each s board request IsStep
-steps s board request = record {
-  refused = stepped;
-  faulted = λ d. refl;
-  project = λ name seed. refl;
-  runner = λ new seed. refl;
-  paused = λ runner paused has. refl;
-  file = λ project text c has. refl;
-  variable = λ project new. refl;
-  gone = λ v. refl;
-  mode = λ new is m. refl;
-  unordered = λ new is project group. refl;
-  mode_shown = λ group order. refl;
-  pipeline = λ new now is project text laid claims rows asked has named file lays. refl;
-  nothing = refl;
-  granted = λ runner job q variables now seed h k m e f. refl;
-  turned_away = away;
-  heard = λ a seen has. refl;
-  ended = λ a state has. refl;
-  misplaced = misplaces;
-  grown = λ a bytes now size has. refl;
-  pipeline_shown = λ p claims jobs facts rows. refl;
-  shown = λ claims project job status. refl;
-  traced = λ trace. refl;
-  read = λ body. refl;
-  acted = λ text changes act. refl;
-  pruned = λ p before asks found. refl;
+safe : (s : State) (board : List BoardRow) (request : Request) → Each s board request IsSafePlan
+safe s board request = record {
+  refused = λ c m. (λ _. refl, stepped c m);
+  faulted = λ d. (λ _. refl, refl);
+  project = λ name seed. did;
+  runner = λ new seed. did;
+  paused = λ runner paused has. did;
+  file = λ project text c has. did;
+  variable = λ project new. did;
+  gone = λ v. did;
+  mode = λ new is m. did;
+  unordered = λ new is project group. did;
+  mode_shown = λ group order. (λ _. refl, refl);
+  pipeline = λ new now is project text laid claims rows asked has named file lays fits. did;
+  nothing = (λ _. refl, refl);
+  granted = λ runner job q variables now seed h k m e f. did;
+  turned_away = λ fault. (λ _. refl, away fault);
+  heard = λ a seen has. did;
+  ended = λ a state has. did;
+  misplaced = λ fault. (λ _. refl, misplaces fault);
+  grown = λ a bytes now size has. did;
+  pipeline_shown = λ p claims jobs facts rows. (λ _. refl, refl);
+  shown = λ claims project job status. (λ _. refl, refl);
+  traced = λ trace. (λ _. refl, refl);
+  read = λ body. (λ _. refl, refl);
+  acted = λ text changes act. did;
+  pruned = λ p before asks found. did;
 } where
-  away : (fault : LeaseFault) → IsStep (unleased fault, [])
+  did : {changes : List RowChange} → (false ≡ true → changes ≡ []) × (Stepped ≡ Stepped)
+  did = (λ refused. absurd (false≢true refused), refl)
+
+  away : (fault : LeaseFault) → outcome_of (Answer.Reply (unleased fault)) ≡ Stepped
   away (NotLive state) = refl
   away LeaseOver = refl
 
-  misplaces : (fault : PieceFault) → IsStep (not_accepted fault, [])
+  misplaces : (fault : PieceFault) → outcome_of (Answer.Reply (not_accepted fault)) ≡ Stepped
   misplaces (Unleased fault) = away fault
   misplaces (WrongOffset size) = refl
   misplaces TraceFull = refl
 
-  stepped : (c : Code) → IsMachineCode c → IsStep (refused c)
-  stepped M1 m = refl
-  stepped M2 m = refl
-  stepped M3 m = refl
-  stepped M4 m = refl
-  stepped M5 m = refl
-  stepped M6 m = refl
-  stepped M7 m = refl
-  stepped M8 m = refl
-  stepped M9 m = refl
-  stepped M10 m = refl
-  stepped M11 m = refl
-  stepped M12 m = refl
-  stepped M13 m = refl
-  stepped M14 m = refl
-  stepped M15 m = refl
+  stepped : (c : Code) → IsMachineCode c → outcome_of (Answer.Reply (refused c).0) ≡ Stepped
   stepped M16 m = absurd m
   stepped M17 m = absurd m
-  stepped H1 m = absurd m
-  stepped H2 m = absurd m
-  stepped H3 m = absurd m
-  stepped H4 m = absurd m
-  stepped H5 m = absurd m
-  stepped H6 m = absurd m
-  stepped H7 m = absurd m
-  stepped H8 m = absurd m
+  stepped c m = refl
 
-swept_steps : (due : Option Lease) (redundant : Option Pipeline) (attempts : List Attempt) (jobs : List Job) → outcome_of (Answer.Swept (sweep due redundant attempts jobs).0) ≡ Stepped
-swept_steps (Some l) redundant attempts jobs = refl
-swept_steps None (Some p) attempts jobs = refl
-swept_steps None None attempts jobs = refl
+-- a sweep that ends and cancels nothing changes nothing, and it refuses nothing
+swept_safe : (due : Option Lease) (redundant : Option Pipeline) (attempts : List Attempt) (jobs : List Job) → let does = sweep due redundant attempts jobs in IsSafe (Answer.Swept does.0, does.1)
+swept_safe (Some l) redundant attempts jobs = (λ refused. absurd refused, refl)
+swept_safe None (Some p) attempts jobs = (λ refused. absurd refused, refl)
+swept_safe None None attempts jobs = (λ _. refl, refl)
 
-all_step : (s : State) (board : List BoardRow) (e : Event) (now : ℕ) (seed : Seed) (a : Answer) (changes : List RowChange) → Happens s board e now seed a changes → outcome_of a ≡ Stepped
-all_step s board (Event.Request request) now seed (Answer.Reply reply) changes is = does s board IsStep request (steps s board request) now seed (reply, changes) is
-all_step s board Event.Sweep now seed (Answer.Swept swept) changes is = ap (λ plan. outcome_of (Answer.Swept plan.0)) is ∙ swept_steps (first_due (leases s) now) (redundant_in s board) s.attempts (cancellable_in s board (redundant_in s board))
-all_step s board (Event.Request request) now seed (Answer.Swept swept) changes is = absurd is
-all_step s board Event.Sweep now seed (Answer.Reply reply) changes is = absurd is
+all_safe : (s : State) (board : List BoardRow) (e : Event) (now : ℕ) (seed : Seed) (a : Answer) (changes : List RowChange) → Happens s board e now seed a changes → IsSafe (a, changes)
+all_safe s board (Event.Request request) now seed (Answer.Reply reply) changes is = does s board IsSafePlan request (safe s board request) now seed (reply, changes) is
+all_safe s board Event.Sweep now seed (Answer.Swept swept) changes is =
+    let P : Swept × List RowChange → Type 0 = λ does. IsSafe (Answer.Swept does.0, does.1) in
+    subst P (sym is) (swept_safe (first_due (leases s) now) (redundant_in s board) s.attempts (cancellable_in s board (redundant_in s board)))
+all_safe s board (Event.Request request) now seed (Answer.Swept swept) changes is = absurd is
+all_safe s board Event.Sweep now seed (Answer.Reply reply) changes is = absurd is
+
+pub unchanged : (s t : State) (e : Event) (now : ℕ) (seed : Seed) (a : Answer) → Step s e now seed a t → IsRefusal a → t ≡ s
+unchanged s t e now seed a step refused = step.state ∙ ap (λ cs. applied cs s) ((all_safe s step.before e now seed a step.changes step.happens).0 refused)
 
 pub answered : (s t : State) (e : Event) (now : ℕ) (seed : Seed) (a : Answer) → Step s e now seed a t → outcome_of a ≡ Stepped
-answered s t e now seed a step = all_step s step.before e now seed a step.changes step.happens
+answered s t e now seed a step = (all_safe s step.before e now seed a step.changes step.happens).1

@@ -1,27 +1,25 @@
 -- Each resource group of a project is held by at most one live attempt, in every state that a history leads to.
-use Rattle.std.proofs.Common.{◌≡◌, ◌⊎◌, ℕ, max, ◌==◌, ◌&&◌, ◌||◌, not, Bool, true, false, List, [], ◌∷◌, ◌++◌, map, flat_map, Option, Some, None, Ok, option_map, refl, sym, ap}
+use Rattle.std.proofs.Common.{◌≡◌, ◌⊎◌, ℕ, ◌==◌, ◌&&◌, ◌||◌, not, Bool, true, false, List, [], ◌∷◌, ◌++◌, map, flat_map, Option, Some, None, option_map, refl, sym, ap}
 use Rattle.std.proofs.Common.{subst, ◌∙◌, inl, inr, ⊎_elim, eqb-true, ne_eqb}
 use Rattle.std.specs.List.{list_any}
 use Rattle.std.specs.Str.{bytes_eq}
-use Rattle.std.proofs.lemmas.Bool.{cond_both, cases_Bool, both_ways, false≢true, and_parts}
+use Rattle.std.proofs.lemmas.Bool.{cases_Bool, both_ways, false≢true, and_parts}
 use Rattle.std.proofs.lemmas.Slice.Eq.{bytes_eq-Decides}
-use Rattle.ci_machine_steps.specs.Prelude.{BoardRow, Holder, Pipeline, Job, Attempt, QueuedJob, AttemptState, Lease, RowChange, Put, Remove, Record, Key, Request, Event, Seed}
-use Rattle.ci_machine_steps.specs.Prelude.{Answer, Swept, State, changed, applied, put, attempt_cmp, mode_cmp, jobs_of, is_live, is_over, cause_of, first_due, holds, is_free}
-use Rattle.ci_machine_steps.specs.Prelude.{held_claim, groups_in, cancellable_jobs, cancel, Plan, made_project, made_runner, runner_paused, file_set, variable_set, variable_gone}
-use Rattle.ci_machine_steps.specs.Prelude.{creation, creation_changes, ended, grown, sweep, is_job_among, without_pipeline, queued_at, group_held, held_by, held_of, holders}
-use Rattle.ci_machine_steps.specs.Prelude.{is_in_group, Happens, job_at, pipeline_at, project_or_none, queued, lease_of, leases, live_attempts, redundant_in, cancellable_in, Past}
+use Rattle.ci_machine_steps.specs.Prelude.{BoardRow, Holder, Pipeline, Job, Attempt, QueuedJob, Event}
+use Rattle.ci_machine_steps.specs.Prelude.{State, applied, attempt_cmp, jobs_of, is_live, holds, is_free}
+use Rattle.ci_machine_steps.specs.Prelude.{held_claim, groups_in}
+use Rattle.ci_machine_steps.specs.Prelude.{is_job_among, without_pipeline, queued_at, group_held, held_by, held_of, holders}
+use Rattle.ci_machine_steps.specs.Prelude.{is_in_group, job_at, pipeline_at, project_or_none, queued, live_attempts, Past}
 use Rattle.ci_machine_steps.specs.Prelude.{Leads, job_for_good, OneLeaseInGroup}
-use Rattle.ci_machine.specs.Prelude.{Failed}
-use Rattle.ci_machine.proofs.Keyed.{not_true, Has, Rising, has_put, has_filter, filter_has, has_find, find_has, find-map, count_one, Named, rising_filter}
+use Rattle.ci_machine.proofs.Keyed.{not_true, Has, Rising, has_put, filter_has, find_has, count_one, Named, rising_filter}
 use Rattle.ci_machine.proofs.Filters.{find_implied}
 use Rattle.ci_machine.proofs.Claims.{free_held, free_not_held}
-use Rattle.ci_machine_steps.proofs.Created.{after_creation}
-use Rattle.ci_machine_steps.proofs.Pruned.{pruned_state, job_left, attempt_was}
-use Rattle.ci_machine_laws.proofs.Acts.{IsAct, cancels, cancellable_within, after_act, came}
+use Rattle.ci_machine_steps.proofs.Pruned.{job_left, attempt_was}
+use Rattle.ci_machine_laws.proofs.Acts.{came}
 use Rattle.ci_machine_laws.proofs.Grants.{Stood}
-use Rattle.ci_machine_laws.proofs.EachPlan.{Each, does, given_in}
+use Rattle.ci_machine_laws.proofs.EachNext.{EachNext, next_is}
 use Rattle.ci_machine_laws.proofs.Reached.{reached}
-use Rattle.ci_machine_laws.proofs.Linked.{Later, Linked, linked_on, follows}
+use Rattle.ci_machine_laws.proofs.Linked.{Later, later, Linked, linked_on, follows}
 use Rattle.ci_machine_laws.proofs.Left.{other_pipeline}
 use Rattle.ci_machine_laws.proofs.Held.{held}
 
@@ -103,110 +101,51 @@ Come s t = (b : Attempt) → Has b t.attempts → Stood s b ⊎ IsNew s b
 there : (s : State) (b : Attempt) → Has b s.attempts → Stood s b
 there s b k = record { old = b; has = k; id = refl; job = refl; runner = refl; live = λ l. l }
 
-stays : (s t : State) → t.attempts ≡ s.attempts → Come s t
-stays s t e b k = inl (there s b (subst (Has b) e k))
-
--- x in place of an attempt of its number, job and runner
-alters : (s t : State) (x a : Attempt) → Has a s.attempts → x.id ≡ a.id → x.job ≡ a.job → x.runner ≡ a.runner → (is_live x ≡ true → is_live a ≡ true) → t.attempts ≡ put attempt_cmp x s.attempts → Come s t
-alters s t x a has same_id same_job same_runner live e b k =
-    ⊎_elim
-    (λ q. inl (record {
-      old = a;
-      has = has;
-      id = sym (ap (λ (c : Attempt). c.id) q ∙ same_id);
-      job = sym (ap (λ (c : Attempt). c.job) q ∙ same_job);
-      runner = sym (ap (λ (c : Attempt). c.runner) q ∙ same_runner);
-      live = λ l. live (sym (ap is_live q) ∙ l);
-    }))
-    (λ m. inl (there s b m))
-    (has_put attempt_cmp x b s.attempts (subst (Has b) e k))
-
-acted : (s : State) (changes : List RowChange) → IsAct s changes → Come s (applied changes s)
-acted s changes act b k =
-    ⊎_elim
-    (λ m. inl (there s b m))
-    (λ w. inl (record {
-      old = w.old;
-      has = w.has;
-      id = sym (ap (λ (c : Attempt). c.id) w.is);
-      job = sym (ap (λ (c : Attempt). c.job) w.is);
-      runner = sym (ap (λ (c : Attempt). c.runner) w.is);
-      live = λ l. w.live;
-    }))
-    (came s changes act b (subst (λ (t : State). Has b t.attempts) (after_act s changes act) k))
-
-module _ (s : State) (board : List BoardRow) (request : Request) where
-  abbrev Comes : Plan → Type 0
-  Comes plan = Come s (applied plan.1 s)
-
-  ends : (a : Attempt) (state : AttemptState) → Has a s.attempts → Comes (ended a (Ok state))
-  ends a state has =
-      let x = record a { state = state } in
-      let t : State = record s { attempts = put attempt_cmp x s.attempts } in
-      cond_both (is_live a) (Put (Record.Attempt x) ∷ []) [] (λ cs. Come s (applied cs s)) (λ live. alters s t x a has refl refl refl (λ l. live) refl) (λ _. stays s s refl)
-
-  grows : (a : Attempt) (bytes : List ℕ) (now size : ℕ) → Has a s.attempts → Comes (grown a bytes now size)
-  grows a bytes now size has =
-      let x = record a { seen = max a.seen now } in
-      alters s (applied (grown a bytes now size).1 s) x a has refl refl refl (λ l. l) refl
-
-  each : Rising job_id 0 s.jobs → Rising (λ (a : Attempt). a.id) 0 s.attempts → Each s board request Comes
-  each jobs_rise rise = record {
-    refused = λ c m. stays s s refl;
-    faulted = λ d. stays s s refl;
-    project = λ name seed. stays s (applied (made_project s.next.project name seed).1 s) refl;
-    runner = λ new seed. stays s (applied (made_runner s.next.runner new seed).1 s) refl;
-    paused = λ runner paused has. stays s (applied (runner_paused runner paused).1 s) refl;
-    file = λ project text c has. stays s (applied (file_set project text c).1 s) refl;
-    variable = λ project new. stays s (applied (variable_set project new).1 s) refl;
-    gone = λ v. stays s (applied (variable_gone v).1 s) refl;
-    mode = λ new is m. stays s (record s { modes = put mode_cmp m s.modes }) refl;
-    unordered = λ new is project group. stays s (changed (Remove (Key.Mode project group)) s) refl;
-    mode_shown = λ group order. stays s s refl;
-    pipeline = λ new now is project text laid claims rows asked has named file lays.
-        stays s (applied (creation_changes s.next.job (creation s.next.pipeline s.next.job new (given_in s new) now laid)) s) (ap (λ (t : State). t.attempts) (after_creation s.next.job (creation s.next.pipeline s.next.job new (given_in s new) now laid) s));
-    nothing = stays s s refl;
-    granted = λ runner job q variables now seed has_runner has_job pending is_queued free b k. ⊎_elim
-        (λ e. inr (record {
-          job = job;
-          has = has_job;
-          its = ap (λ w. w.job.id) is_queued ∙ sym (ap (λ (c : Attempt). c.job) e);
-          free = subst (λ (w : QueuedJob). is_free (map held_claim (holders s)) w.project w.job.options.resource_group ≡ true) (sym is_queued)
-              (free_not_held (groups_in s board) q.job.pipeline q.project q.job.options.resource_group free);
-          id = ap (λ (c : Attempt). c.id) e;
-        }))
-        (λ m. inl (there s b m)) (has_put attempt_cmp _ b s.attempts k);
-    turned_away = λ fault. stays s s refl;
-    heard = λ a seen has. alters s (record s { attempts = put attempt_cmp (record a { seen = seen }) s.attempts }) (record a { seen = seen }) a has refl refl refl (λ l. l) refl;
-    ended = ends;
-    misplaced = λ fault. stays s s refl;
-    grown = grows;
-    pipeline_shown = λ p claims jobs facts rows. stays s s refl;
-    shown = λ claims project job status. stays s s refl;
-    traced = λ trace. stays s s refl;
-    read = λ body. stays s s refl;
-    acted = λ text changes act. acted s changes act;
-    pruned = λ p before asks found b k. inl (there s b (attempt_was s p.id jobs_rise rise b (subst (λ (t : State). Has b t.attempts) (pruned_state s p.id jobs_rise rise p refl) k)).0);
-  }
-
-swept : (s : State) (board : List BoardRow) (now : ℕ) (o : Option Lease) → first_due (leases s) now ≡ o → (redundant : Option Pipeline) → Come s (applied (sweep o redundant s.attempts (cancellable_in s board redundant)).1 s)
-swept s board now None found None = stays s s refl
-swept s board now None found (Some p) = acted s (cancel s.attempts (cancellable_jobs s board p.id)) (cancels s (cancellable_jobs s board p.id) (cancellable_within s board p.id))
-swept s board now (Some l) found redundant =
-    let at = find-map (lease_of s) (λ (w : Lease). is_over w.attempt w.limit now) l (live_attempts s) found in
-    let is : at.0 ≡ l.attempt = ap (λ (w : Lease). w.attempt) at.1.0 in
-    let first = has_find (λ (b : Attempt). is_over b (lease_of s b).limit now) at.0 (live_attempts s) at.1.1 in
-    let has = has_filter is_live at.0 s.attempts first.0 in
-    let x = record l.attempt { state = Failed (cause_of l) None } in
-    alters s (record s { attempts = put attempt_cmp x s.attempts }) x l.attempt (subst (λ (b : Attempt). Has b s.attempts) is has.0) refl refl refl (λ _. subst (λ (b : Attempt). is_live b ≡ true) is has.1) refl
-
-comes : (s : State) (board : List BoardRow) (e : Event) (now : ℕ) (seed : Seed) (a : Answer) (changes : List RowChange) → Rising job_id 0 s.jobs → Rising (λ (b : Attempt). b.id) 0 s.attempts → Happens s board e now seed a changes → Come s (applied changes s)
-comes s board (Event.Request r) now seed (Answer.Reply reply) changes jobs_rise rise is = does s board (Comes s board r) r (each s board r jobs_rise rise) now seed (reply, changes) is
-comes s board Event.Sweep now seed (Answer.Swept out) changes jobs_rise rise is =
-    let P : Swept × List RowChange → Type 0 = λ f. Come s (applied f.1 s) in
-    subst P (sym is) (swept s board now (first_due (leases s) now) refl (redundant_in s board))
-comes s board (Event.Request r) now seed (Answer.Swept out) changes jobs_rise rise is = absurd is
-comes s board Event.Sweep now seed (Answer.Reply reply) changes jobs_rise rise is = absurd is
+comes : (s : State) (board : List BoardRow) (e : Event) → Rising job_id 0 s.jobs → Rising (λ (a : Attempt). a.id) 0 s.attempts → EachNext s board e (λ _ t. Come s t)
+comes s board e jobs_rise rise = record {
+  stays = λ _. same;
+  project = λ _ name seed. same;
+  runner = λ _ new seed. same;
+  paused = λ _ runner paused has. same;
+  file = λ _ project text has. same;
+  variables = λ _ vs. same;
+  modes = λ _ new is ms. same;
+  pipeline = λ new now is project text laid claims rows asked has named file lays fits. same;
+  granted = λ _ runner job q variables now seed has_runner has_job pending is_queued free b k. ⊎_elim
+      (λ e. inr (record {
+        job = job;
+        has = has_job;
+        its = ap (λ w. w.job.id) is_queued ∙ sym (ap (λ (c : Attempt). c.job) e);
+        free = subst (λ (w : QueuedJob). is_free (map held_claim (holders s)) w.project w.job.options.resource_group ≡ true) (sym is_queued)
+            (free_not_held (groups_in s board) q.job.pipeline q.project q.job.options.resource_group free);
+        id = ap (λ (c : Attempt). c.id) e;
+      }))
+      (λ m. inl (there s b m)) (has_put attempt_cmp _ b s.attempts k);
+  alters = λ _ old seen state traces has live b k. inl (⊎_elim
+      (λ e. record {
+        old = old;
+        has = has;
+        id = sym (ap (λ (c : Attempt). c.id) e);
+        job = sym (ap (λ (c : Attempt). c.job) e);
+        runner = sym (ap (λ (c : Attempt). c.runner) e);
+        live = λ l. live (sym (ap is_live e) ∙ l);
+      })
+      (there s b) (has_put attempt_cmp _ b s.attempts k));
+  acted = λ _ changes act b k. inl (⊎_elim
+      (there s b)
+      (λ w. record {
+        old = w.old;
+        has = w.has;
+        id = sym (ap (λ (c : Attempt). c.id) w.is);
+        job = sym (ap (λ (c : Attempt). c.job) w.is);
+        runner = sym (ap (λ (c : Attempt). c.runner) w.is);
+        live = λ l. w.live;
+      })
+      (came s changes act b k));
+  pruned = λ p before is found b k. inl (there s b (attempt_was s p.id jobs_rise rise b k).0);
+} where
+  same : Come s s
+  same b k = inl (there s b k)
 
 -- ---- every state that a history leads to
 
@@ -272,8 +211,8 @@ apart (p ∷ h) s l =
     let t = applied l.1.changes p.before in
     let kr : Rising job_id 0 t.jobs = subst (λ (w : State). Rising job_id 0 w.jobs) l.1.state (reached (p ∷ h) s l).grants.jobs_rise in
     subst Apart (sym l.1.state) (⊎_elim
-    (λ n. apart_on p.before t was (linked_on p.before t was n) n.later g.jobs_rise kr (apart h p.before l.0)
-    (comes p.before l.1.before p.event p.now p.seed p.answer l.1.changes g.jobs_rise g.rise l.1.happens))
+    (λ n. apart_on p.before t was (linked_on p.before t was n) (later p.before t n) g.jobs_rise kr (apart h p.before l.0)
+    (next_is p.before l.1.before g.jobs_rise g.rise (λ _ w. Come p.before w) p.event p.now p.seed p.answer l.1.changes (comes p.before l.1.before p.event g.jobs_rise g.rise) l.1.happens))
     (λ w. subst Apart (sym w.state) (apart_left p.before w.pipeline.id was.attempt_job g.jobs_rise g.rise (apart h p.before l.0)))
     (follows p.before l.1.before p.event p.now p.seed p.answer l.1.changes was g.jobs_rise g.rise g.below l.1.happens))
 

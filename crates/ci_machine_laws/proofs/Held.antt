@@ -5,6 +5,7 @@ use Rattle.ci_machine_steps.specs.Prelude.{Project, Runner, Pipeline, Job, State
 use Rattle.ci_machine_steps.specs.Prelude.{GivesInOrder}
 use Rattle.ci_machine.proofs.Keyed.{Has, All-from_has, contains_named}
 use Rattle.ci_machine_steps.proofs.Variables.{Ordered, changes_ordered, gives_in_order}
+use Rattle.ci_machine_laws.proofs.EachNext.{next_is}
 use Rattle.ci_machine_laws.proofs.Reached.{reached}
 use Rattle.ci_machine_laws.proofs.Linked.{Linked, linked_on, follows}
 use Rattle.ci_machine_laws.proofs.Joined.{Joined, joined_none, joined_on}
@@ -63,7 +64,7 @@ held (p ∷ h) s l =
           (λ n. linked_on p.before t i.linked n)
           (λ w. subst Linked (sym w.state) (linked_left p.before w.pipeline.id g.jobs_rise g.rise i.linked i.joined))
           next;
-      joined = joined_on p.before l.1.before p.event p.now p.seed p.answer l.1.changes i.linked i.joined g.jobs_rise g.rise l.1.happens;
+      joined = next_is p.before l.1.before g.jobs_rise g.rise (λ _ w. Joined w.jobs w.needs) p.event p.now p.seed p.answer l.1.changes (joined_on p.before l.1.before p.event i.linked i.joined) l.1.happens;
       stays = λ q k. ⊎_elim
           (λ e. subst (λ (w : Past). Since (p ∷ h) w.before t) (sym e) one)
           (λ m. since_through p h q.before p.before t (i.stays q m) one) k;

@@ -1,21 +1,19 @@
 -- Which jobs wait for which, before each step and after it: those of one pipeline, and in no circle.
-use Rattle.std.proofs.Common.{◌≡◌, ◌⊎◌, ℕ, ◌+◌, ◌<◌, ◌≤◌, List, [], ◌∷◌, ◌++◌, length, map, Option, Some, None, Contains, Result, Ok, Err, refl, sym, ap, subst, ◌∙◌, inl, inr}
+use Rattle.std.proofs.Common.{◌≡◌, ◌⊎◌, ℕ, ◌+◌, ◌<◌, ◌≤◌, List, [], ◌∷◌, ◌++◌, length, map, Contains, Result, Ok, Err, refl, sym, ap, subst, ◌∙◌, inl, inr}
 use Rattle.std.proofs.Common.{⊎_elim, arith}
-use Rattle.std.proofs.lemmas.Bool.{cond_both}
 use Rattle.ci_graph_layout.specs.Prelude.{Config, Given, Plans, faulty, cyclic}
 use Rattle.ci_machine.specs.Prelude.{IsWalk, HasWalk, IsAcyclic}
 use Rattle.ci_graph_layout.specs.Fault as layout
 use Rattle.ci_graph_layout.specs.declared.fault.GraphCode.{GraphCode}
-use Rattle.ci_machine_steps.specs.Prelude.{Lease, BoardRow, Pipeline, Job, Need, Attempt, RowChange, Put, Record, NewPipeline, Request, Event, Seed, Answer, Detail, Swept, State}
-use Rattle.ci_machine_steps.specs.Prelude.{applied, job_cmp, need_cmp, is_live, first_due, Plan, Layout, IsLaidOut, misread, unplanned, creation, need_of, sweep, cancellable_jobs}
-use Rattle.ci_machine_steps.specs.Prelude.{cancel, Happens, leases, redundant_in, cancellable_in}
+use Rattle.ci_machine_steps.specs.Prelude.{BoardRow, Job, Need, RowChange, NewPipeline, Event, Detail, State}
+use Rattle.ci_machine_steps.specs.Prelude.{job_cmp, need_cmp, Layout, IsLaidOut, misread, unplanned, creation, need_of}
 use Rattle.ci_machine_steps.specs.Pipelines as pipelines
-use Rattle.ci_machine.proofs.Keyed.{Has, Rising, has_filter, contains_from_has, has_from_contains, has_map, map_has}
+use Rattle.ci_machine.proofs.Keyed.{Has, has_filter, contains_from_has, has_from_contains, has_map, map_has}
 use Rattle.ci_machine_steps.proofs.Behind.{in_either, has_all, put_all}
-use Rattle.ci_machine_steps.proofs.Created.{created_state, after_creation, IsNew, new_are, needs_are, jobs_behind}
-use Rattle.ci_machine_steps.proofs.Pruned.{pruned_state}
-use Rattle.ci_machine_laws.proofs.Acts.{IsAct, cancels, cancellable_within, after_act}
-use Rattle.ci_machine_laws.proofs.EachPlan.{Each, does, given_in}
+use Rattle.ci_machine_steps.proofs.Created.{created_state, IsNew, new_are, needs_are, jobs_behind}
+use Rattle.ci_machine_laws.proofs.Acts.{IsAct}
+use Rattle.ci_machine_laws.proofs.EachPlan.{given_in}
+use Rattle.ci_machine_laws.proofs.EachNext.{EachNext}
 use Rattle.ci_machine_laws.proofs.Linked.{Linked}
 
 -- the pairs of the needs, by the numbers of their jobs
@@ -170,21 +168,20 @@ enters s new given now text laid i was lays =
 
 -- ---- a user acts on jobs
 
-acts : (s : State) (changes : List RowChange) (act : IsAct s changes) → Joined s.jobs s.needs → Joined (applied changes s).jobs (applied changes s).needs
+acts : (s : State) (changes : List RowChange) (act : IsAct s changes) → Joined s.jobs s.needs → Joined (put_all job_cmp act.jobs s.jobs) s.needs
 acts s changes act was =
-    let then_jobs = put_all job_cmp act.jobs s.jobs in
-    let old : (j : Job) → Has j then_jobs → (x : Job) × (Has x s.jobs × ((j.id ≡ x.id) × (j.pipeline ≡ x.pipeline)))
+    let old : (j : Job) → Has j (put_all job_cmp act.jobs s.jobs) → (x : Job) × (Has x s.jobs × ((j.id ≡ x.id) × (j.pipeline ≡ x.pipeline)))
     = λ j k. ⊎_elim
     (λ m. (j, (m, (refl, refl))))
     (λ m. let w = act.each_job j m in (w.old, (w.has, (ap (λ (v : Job). v.id) w.good, ap (λ (v : Job). v.pipeline) w.good))))
     (has_all job_cmp act.jobs s.jobs j k) in
-    subst (λ (t : State). Joined t.jobs t.needs) (sym (after_act s changes act)) (record {
+    record {
       one_pipeline = λ w j k hw hj hk ej ek.
           let x = old j hj in
           let y = old k hk in
           x.1.1.1 ∙ (was.one_pipeline w x.0 y.0 hw x.1.0 y.1.0 (sym x.1.1.0 ∙ ej) (sym y.1.1.0 ∙ ek) ∙ sym y.1.1.1);
       acyclic = was.acyclic;
-    })
+    }
 
 -- ---- some of the jobs and of the needs
 
@@ -207,55 +204,21 @@ module _ (needs some : List Need) (had : (w : Need) → Has w some → Has w nee
 
 -- ---- each step
 
-abbrev After : State → Plan → Type 0
-After s plan = Joined (applied plan.1 s).jobs (applied plan.1 s).needs
-
-each : (s : State) (board : List BoardRow) (request : Request) → Linked s → Joined s.jobs s.needs → Rising (λ (j : Job). j.id) 0 s.jobs → Rising (λ (a : Attempt). a.id) 0 s.attempts → Each s board request (After s)
-each s board request i was jobs_rise rise = record {
-  refused = λ c m. was;
-  faulted = λ d. was;
-  project = λ name seed. was;
-  runner = λ new seed. was;
-  paused = λ runner paused has. was;
-  file = λ project text c has. was;
-  variable = λ project new. was;
-  gone = λ v. was;
-  mode = λ new is m. was;
-  unordered = λ new is project group. was;
-  mode_shown = λ group order. was;
-  pipeline = λ new now is project text laid claims rows asked has named file lays.
-      subst (λ (t : State). Joined t.jobs t.needs) (sym (after_creation s.next.job (creation s.next.pipeline s.next.job new (given_in s new) now laid) s)) (enters s new (given_in s new) now text laid i was lays);
-  nothing = was;
-  granted = λ runner job q variables now seed has_runner has_job pending is_queued free. was;
-  turned_away = λ fault. was;
-  heard = λ a seen has. was;
-  ended = λ a state has. cond_both (is_live a) (Put (Record.Attempt (record a { state = state })) ∷ []) [] (λ cs. Joined (applied cs s).jobs (applied cs s).needs) (λ _. was) (λ _. was);
-  misplaced = λ fault. was;
-  grown = λ a bytes now size has. was;
-  pipeline_shown = λ p claims jobs facts rows. was;
-  shown = λ claims project job status. was;
-  traced = λ trace. was;
-  read = λ body. was;
-  acted = λ text changes act. acts s changes act was;
-  pruned = λ p before asks found. subst (λ (t : State). Joined t.jobs t.needs) (sym (pruned_state s p.id jobs_rise rise p refl))
-      (leaves s.needs _ (λ w k. (has_filter _ w s.needs k).0) s.jobs _ (λ j k. (has_filter _ j s.jobs k).0) was);
+pub joined_on : (s : State) (board : List BoardRow) (e : Event) → Linked s → Joined s.jobs s.needs → EachNext s board e (λ _ t. Joined t.jobs t.needs)
+joined_on s board e i was = record {
+  stays = λ _. was;
+  project = λ _ name seed. was;
+  runner = λ _ new seed. was;
+  paused = λ _ runner paused has. was;
+  file = λ _ project text has. was;
+  variables = λ _ vs. was;
+  modes = λ _ new is ms. was;
+  pipeline = λ new now is project text laid claims rows asked has named file lays fits. enters s new (given_in s new) now text laid i was lays;
+  granted = λ _ runner job q variables now seed has_runner has_job pending is_queued free. was;
+  alters = λ _ old seen state traces has live. was;
+  acted = λ _ changes act. acts s changes act was;
+  pruned = λ p before is found. leaves s.needs _ (λ w k. (has_filter _ w s.needs k).0) s.jobs _ (λ j k. (has_filter _ j s.jobs k).0) was;
 }
-
-swept : (s : State) (board : List BoardRow) → Joined s.jobs s.needs → (o : Option Lease) (redundant : Option Pipeline)
-    → let cs = (sweep o redundant s.attempts (cancellable_in s board redundant)).1 in Joined (applied cs s).jobs (applied cs s).needs
-swept s board was None None = was
-swept s board was None (Some p) =
-    acts s (cancel s.attempts (cancellable_jobs s board p.id)) (cancels s (cancellable_jobs s board p.id) (cancellable_within s board p.id)) was
-swept s board was (Some l) redundant = was
-
-pub joined_on : (s : State) (board : List BoardRow) (e : Event) (now : ℕ) (seed : Seed) (a : Answer) (changes : List RowChange) → Linked s → Joined s.jobs s.needs → Rising (λ (j : Job). j.id) 0 s.jobs → Rising (λ (w : Attempt). w.id) 0 s.attempts
-    → Happens s board e now seed a changes → Joined (applied changes s).jobs (applied changes s).needs
-joined_on s board (Event.Request request) now seed (Answer.Reply reply) changes i was jobs_rise rise is = does s board (After s) request (each s board request i was jobs_rise rise) now seed (reply, changes) is
-joined_on s board Event.Sweep now seed (Answer.Swept ended) changes i was jobs_rise rise is =
-    let P : Swept × List RowChange → Type 0 = λ f. Joined (applied f.1 s).jobs (applied f.1 s).needs in
-    subst P (sym is) (swept s board was (first_due (leases s) now) (redundant_in s board))
-joined_on s board (Event.Request request) now seed (Answer.Swept ended) changes i was jobs_rise rise is = absurd is
-joined_on s board Event.Sweep now seed (Answer.Reply reply) changes i was jobs_rise rise is = absurd is
 
 no_walk : (i : ℕ) (ks : List ℕ) (j : ℕ) → IsWalk [] i ks j → ⊥
 no_walk i [] j c = has_from_contains (i, j) [] c

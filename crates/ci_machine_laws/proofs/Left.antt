@@ -6,7 +6,7 @@ use Rattle.ci_machine_steps.specs.Prelude.{attempt_for_good, Prunes, WasPruned, 
 use Rattle.ci_machine.proofs.Keyed.{not_true, Has, Rising, rising_filter, has_filter, filter_has, Named}
 use Rattle.ci_machine_steps.proofs.Pruned.{among_its, job_left, job_was, attempts_left, attempt_was, attempt_left}
 use Rattle.ci_machine_laws.proofs.Gone.{still_pruned, still_gone, is_pruned, goes_with}
-use Rattle.ci_machine_laws.proofs.Linked.{Kept, kept, kept_through, Later, Linked, Follows}
+use Rattle.ci_machine_laws.proofs.Linked.{Kept, kept, kept_through, Later, later, Linked, Follows}
 use Rattle.ci_machine_laws.proofs.Joined.{Joined}
 
 -- ---- what records name is left with them
@@ -109,7 +109,7 @@ since_pruned p h n jobs_rise rise prunes =
 pub since_line : (p : Past) (h : List Past) (t : State) → Rising (λ (j : Job). j.id) 0 p.before.jobs → Rising (λ (a : Attempt). a.id) 0 p.before.attempts → Follows p.before p.event p.answer t → Since (p ∷ h) p.before t
 since_line p h t jobs_rise rise follows =
     ⊎_elim
-    (λ n. since_later (p ∷ h) p.before t n.later)
+    (λ n. since_later (p ∷ h) p.before t (later p.before t n))
     (λ w. subst (λ (r : State). Since (p ∷ h) p.before r) (sym w.state) (since_pruned p h w.pipeline.id jobs_rise rise (w.before, w.asked, w.answered)))
     follows
 

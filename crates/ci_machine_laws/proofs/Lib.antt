@@ -1,4 +1,5 @@
 pub mod EachPlan
+pub mod EachNext
 pub mod Counts
 pub mod Grants
 pub mod Pending

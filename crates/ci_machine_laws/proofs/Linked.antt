@@ -1,20 +1,20 @@
 -- What a step leaves, and which records others name.
-use Rattle.std.proofs.Common.{◌≡◌, ◌⊎◌, ℕ, ◌+◌, ◌<◌, ◌≤◌, Bool, ◌==◌, not, max, List, [], ◌∷◌, ◌++◌, length, filter, Option, Some, None, Ok, nat_cmp, is_eq, is_lt, Ordering, refl}
+use Rattle.std.proofs.Common.{◌≡◌, ◌⊎◌, ℕ, ◌+◌, ◌<◌, ◌≤◌, Bool, ◌==◌, not, List, [], ◌∷◌, ◌++◌, length, filter, Ok, nat_cmp, is_eq, is_lt, Ordering, refl}
 use Rattle.std.proofs.Common.{sym, ap, subst, ◌∙◌, inl, inr, ⊎_elim, arith}
 use Rattle.std.proofs.lemmas.Bool.{cases_Bool, cond_both}
-use Rattle.ci_machine_steps.specs.Prelude.{BoardRow, Need, Project, Runner, Pipeline, QueuedJob, Job, Variable, Attempt, GroupMode, Lease, RowChange, Put, Record, NewPipeline}
-use Rattle.ci_machine_steps.specs.Prelude.{Request, Event, Seed, Answer, Swept, State, applied, placed, put, others, variable_cmp, pipeline_cmp, job_cmp, need_cmp, attempt_cmp}
-use Rattle.ci_machine_steps.specs.Prelude.{mode_cmp, attempts_of, is_live, is_over, first_due, Plan, Layout, IsLaidOut, creation, sweep, is_prunable, grown as traces_grown}
-use Rattle.ci_machine_steps.specs.Prelude.{cancellable_jobs, cancel, Happens, lease_of, leases, live_attempts, redundant_in, cancellable_in, project_for_good, runner_for_good}
+use Rattle.ci_machine_steps.specs.Prelude.{BoardRow, Need, Project, Runner, Pipeline, QueuedJob, Job, Attempt, RowChange, NewPipeline}
+use Rattle.ci_machine_steps.specs.Prelude.{Event, Seed, Answer, State, applied, placed, put, others, pipeline_cmp, job_cmp, need_cmp, attempt_cmp}
+use Rattle.ci_machine_steps.specs.Prelude.{attempts_of, Layout, IsLaidOut, creation, is_prunable}
+use Rattle.ci_machine_steps.specs.Prelude.{Happens, project_for_good, runner_for_good}
 use Rattle.ci_machine_steps.specs.Prelude.{job_for_good, attempt_for_good}
 use Rattle.ci_graph_layout.specs.Prelude.{Given}
-use Rattle.ci_machine.proofs.Keyed.{Has, Rising, has_put, put_has, same, rising_put, has_filter, has_find, find-map, one_at, Below, Named}
+use Rattle.ci_machine.proofs.Keyed.{Has, Rising, has_put, put_has, same, rising_put, has_find, one_at, Below, Named}
 use Rattle.ci_machine_laws.proofs.Counts.{passing_new, passing_put}
 use Rattle.ci_machine_steps.proofs.Behind.{in_either, has_left, has_right, put_all, has_all}
-use Rattle.ci_machine_steps.proofs.Created.{created_state, after_creation, new_length, IsNew, new_are, new_numbered, needs_are, pairs_inside, jobs_behind}
-use Rattle.ci_machine_laws.proofs.Acts.{IsAct, cancels, cancellable_within, after_act}
-use Rattle.ci_machine_laws.proofs.EachPlan.{Each, does, given_in}
-use Rattle.ci_machine_steps.proofs.Pruned.{pruned_state}
+use Rattle.ci_machine_steps.proofs.Created.{created_state, new_length, IsNew, new_are, new_numbered, needs_are, pairs_inside, jobs_behind}
+use Rattle.ci_machine_laws.proofs.Acts.{IsAct}
+use Rattle.ci_machine_laws.proofs.EachPlan.{given_in}
+use Rattle.ci_machine_laws.proofs.EachNext.{EachNext, next_is}
 use Rattle.ci_machine_laws.proofs.Gone.{IsPruned}
 
 -- ---- lists
@@ -58,6 +58,21 @@ kept_put id f x a xs r has same_id good y k =
     (λ e. let q : y ≡ a = one_at id y a 0 xs r k has (same (id y) (id x) e ∙ same_id) in (x, (has_self cmp x (others cmp x xs), good ∙ ap f (sym q))))
     (λ e. (y, (put_has cmp x y xs k (ap not e), refl)))
     (cases_Bool (is_eq (nat_cmp (id y) (id x))))
+
+-- a table in the next state: what was there is there, and numbers that are still to come are new
+abbrev Table : {A : Type 0} → (A → ℕ) → (A → A) → List A → List A → ℕ → Type 0
+Table id f xs ys next = Kept f xs ys × Rising id 0 ys × Below id next ys
+
+same_table : {A : Type 0} (id : A → ℕ) (f : A → A) (xs : List A) (next : ℕ) → Rising id 0 xs → Below id next xs → Table id f xs xs next
+same_table id f xs next r b = (kept f xs xs refl, r, b)
+
+new_in : {A : Type 0} (id : A → ℕ) (f : A → A) (x : A) (xs : List A) → Rising id 0 xs → Below id (id x) xs → Table id f xs (put (λ a b. nat_cmp (id a) (id b)) x xs) (id x + 1)
+new_in id f x xs r b = (kept_new id f x (id x) xs b (omega arith), rising_put id x 0 xs r (omega arith), below_put id x (id x) (id x + 1) xs b (omega arith) (omega arith))
+
+put_in : {A : Type 0} (id : A → ℕ) (f : A → A) (x a : A) (xs : List A) (next : ℕ) → Rising id 0 xs → Below id next xs → Has a xs → id x ≡ id a → f x ≡ f a → Table id f xs (put (λ v w. nat_cmp (id v) (id w)) x xs) next
+put_in id f x a xs next r b has same_id good =
+    let below : id a < next = b a has in
+    (kept_put id f x a xs r has same_id good, rising_put id x 0 xs r (omega arith), below_put id x next next xs b (omega arith) (omega arith))
 
 -- records that come in the places of ones that are the same for good
 module _ {A : Type 0} (id : A → ℕ) (f : A → A) (same_id : (x y : A) → f x ≡ f y → id x ≡ id y) where
@@ -106,15 +121,6 @@ pub record Later (s t : State) : Type 0 where
   pub jobs : Kept job_for_good s.jobs t.jobs
   pub attempts : Kept attempt_for_good s.attempts t.attempts
 
-later_self : (s : State) → Later s s
-later_self s = record {
-  projects = kept project_for_good s.projects s.projects refl;
-  runners = kept runner_for_good s.runners s.runners refl;
-  pipelines = kept (λ p. p) s.pipelines s.pipelines refl;
-  jobs = kept job_for_good s.jobs s.jobs refl;
-  attempts = kept attempt_for_good s.attempts s.attempts refl;
-}
-
 -- numbers that are still to come are new, and the records that others name are there
 pub record Linked (s : State) : Type 0 where
   pub projects_rise : Rising (λ (p : Project). p.id) 0 s.projects
@@ -148,24 +154,35 @@ IsOfNext s j = (j.pipeline ≡ s.next.pipeline) × (s.next.job ≤ j.id)
 was_there : (s : State) (j : Job) → Has j s.jobs → WasThere s j ⊎ IsOfNext s j
 was_there s j k = inl (j, (k, (refl, refl)))
 
--- the next state: what was there is there, and its new records are linked
-pub record Next (s t : State) : Type 0 where
-  pub later : Later s t
-  projects_rise : Rising (λ (p : Project). p.id) 0 t.projects
-  runners_rise : Rising (λ (r : Runner). r.id) 0 t.runners
-  pipelines_rise : Rising (λ (p : Pipeline). p.id) 0 t.pipelines
-  project_below : Below (λ (p : Project). p.id) t.next.project t.projects
-  runner_below : Below (λ (r : Runner). r.id) t.next.runner t.runners
-  pipeline_below : Below (λ (p : Pipeline). p.id) t.next.pipeline t.pipelines
+-- the attempts of the next state: those that were there are there, the new ones name others, and no job has fewer
+record Attempts (s : State) (attempts : List Attempt) (jobs : List Job) : Type 0 where
+  stay : Kept attempt_for_good s.attempts attempts
+  linked : (a : Attempt) → Has a attempts → Has a s.attempts ⊎ (Named (λ (j : Job). j.id) a.job jobs × Named (λ (r : Runner). r.id) a.runner s.runners)
+  counts : (job : ℕ) → length (filter (λ a. a.job == job) s.attempts) ≤ length (filter (λ a. a.job == job) attempts)
+
+same_attempts : (s : State) (jobs : List Job) → Attempts s s.attempts jobs
+same_attempts s jobs = record { stay = kept attempt_for_good s.attempts s.attempts refl; linked = λ a k. inl k; counts = λ n. omega arith }
+
+-- what was there is there in the next state, and its new records are linked
+pub record NextOf (s t : State) : Type 0 where
+  projects : Table (λ (p : Project). p.id) project_for_good s.projects t.projects t.next.project
+  runners : Table (λ (r : Runner). r.id) runner_for_good s.runners t.runners t.next.runner
+  pipelines : Table (λ (p : Pipeline). p.id) (λ p. p) s.pipelines t.pipelines t.next.pipeline
+  kept_jobs : Kept job_for_good s.jobs t.jobs
   job_below : Below (λ (j : Job). j.id) t.next.job t.jobs
   next_job : s.next.job ≤ t.next.job
-  attempts : (a : Attempt) → Has a t.attempts → Has a s.attempts ⊎ (Named (λ (j : Job). j.id) a.job t.jobs × Named (λ (r : Runner). r.id) a.runner t.runners)
+  attempts : Attempts s t.attempts t.jobs
   jobs : (j : Job) → Has j t.jobs → Has j s.jobs ⊎ (Named (λ (p : Pipeline). p.id) j.pipeline t.pipelines × ((1 ≤ j.id) × (j.set_aside ≤ length (attempts_of t j.id))))
   numbered : (j : Job) → Has j t.jobs → WasThere s j ⊎ IsOfNext s j
-  -- no job has fewer attempts
-  counts : (job : ℕ) → length (attempts_of s job) ≤ length (attempts_of t job)
-  pipelines : (p : Pipeline) → Has p t.pipelines → Has p s.pipelines ⊎ Named (λ (q : Project). q.id) p.project t.projects
+  of_project : (p : Pipeline) → Has p t.pipelines → Has p s.pipelines ⊎ Named (λ (q : Project). q.id) p.project t.projects
   needs : (w : Need) → Has w t.needs → Has w s.needs ⊎ (Named (λ (j : Job). j.id) w.job t.jobs × Named (λ (j : Job). j.id) w.pred t.jobs)
+
+-- variables, process modes and traces don't count
+abbrev pub Next : State → State → Type 0
+Next s t = NextOf s (record t { variables = []; job_variables = []; modes = []; traces = [] })
+
+pub later : (s t : State) → Next s t → Later s t
+later s t n = record { projects = n.projects.0; runners = n.runners.0; pipelines = n.pipelines.0; jobs = n.kept_jobs; attempts = n.attempts.stay }
 
 turns : (s : State) → Linked s → (a b : Job) → WasThere s a ⊎ IsOfNext s a → WasThere s b ⊎ IsOfNext s b → a.pipeline < b.pipeline → a.id < b.id
 turns s i a b (inl v) (inl w) lt =
@@ -194,158 +211,78 @@ turns s i a b (inr n) (inr m) lt =
 
 pub linked_on : (s t : State) → Linked s → Next s t → Linked t
 linked_on s t i n = record {
-  projects_rise = n.projects_rise;
-  runners_rise = n.runners_rise;
-  pipelines_rise = n.pipelines_rise;
-  project_below = n.project_below;
-  runner_below = n.runner_below;
-  pipeline_below = n.pipeline_below;
+  projects_rise = n.projects.1;
+  runners_rise = n.runners.1;
+  pipelines_rise = n.pipelines.1;
+  project_below = n.projects.2;
+  runner_below = n.runners.2;
+  pipeline_below = n.pipelines.2;
   job_below = n.job_below;
-  attempt_job = λ a k. ⊎_elim (λ m. named_kept (λ (j : Job). j.id) job_for_good a.job s.jobs t.jobs (λ x y e. ap (λ (j : Job). j.id) e) n.later.jobs (i.attempt_job a m)) (λ w. w.0) (n.attempts a k);
-  attempt_runner = λ a k. ⊎_elim (λ m. named_kept (λ (r : Runner). r.id) runner_for_good a.runner s.runners t.runners (λ x y e. ap (λ (r : Runner). r.id) e) n.later.runners (i.attempt_runner a m)) (λ w. w.1) (n.attempts a k);
-  job_pipeline = λ j k. ⊎_elim (λ m. named_kept (λ (p : Pipeline). p.id) (λ p. p) j.pipeline s.pipelines t.pipelines (λ x y e. ap (λ (p : Pipeline). p.id) e) n.later.pipelines (i.job_pipeline j m)) (λ w. w.0) (n.jobs j k);
-  pipeline_project = λ p k. ⊎_elim (λ m. named_kept (λ (q : Project). q.id) project_for_good p.project s.projects t.projects (λ x y e. ap (λ (q : Project). q.id) e) n.later.projects (i.pipeline_project p m)) (λ w. w) (n.pipelines p k);
-  need_job = λ w k. ⊎_elim (λ m. named_kept (λ (j : Job). j.id) job_for_good w.job s.jobs t.jobs (λ x y e. ap (λ (j : Job). j.id) e) n.later.jobs (i.need_job w m)) (λ v. v.0) (n.needs w k);
-  need_pred = λ w k. ⊎_elim (λ m. named_kept (λ (j : Job). j.id) job_for_good w.pred s.jobs t.jobs (λ x y e. ap (λ (j : Job). j.id) e) n.later.jobs (i.need_pred w m)) (λ v. v.1) (n.needs w k);
+  attempt_job = λ a k. ⊎_elim (λ m. of_job a.job (i.attempt_job a m)) (λ w. w.0) (n.attempts.linked a k);
+  attempt_runner = λ a k. ⊎_elim (λ m. named_kept (λ (r : Runner). r.id) runner_for_good a.runner s.runners t.runners (λ x y e. ap (λ (r : Runner). r.id) e) n.runners.0 (i.attempt_runner a m))
+      (λ w. named_kept (λ (r : Runner). r.id) runner_for_good a.runner s.runners t.runners (λ x y e. ap (λ (r : Runner). r.id) e) n.runners.0 w.1) (n.attempts.linked a k);
+  job_pipeline = λ j k. ⊎_elim (λ m. named_kept (λ (p : Pipeline). p.id) (λ p. p) j.pipeline s.pipelines t.pipelines (λ x y e. ap (λ (p : Pipeline). p.id) e) n.pipelines.0 (i.job_pipeline j m)) (λ w. w.0) (n.jobs j k);
+  pipeline_project = λ p k. ⊎_elim (λ m. named_kept (λ (q : Project). q.id) project_for_good p.project s.projects t.projects (λ x y e. ap (λ (q : Project). q.id) e) n.projects.0 (i.pipeline_project p m)) (λ w. w) (n.of_project p k);
+  need_job = λ w k. ⊎_elim (λ m. of_job w.job (i.need_job w m)) (λ v. v.0) (n.needs w k);
+  need_pred = λ w k. ⊎_elim (λ m. of_job w.pred (i.need_pred w m)) (λ v. v.1) (n.needs w k);
   first_job = let a = i.first_job in let b = n.next_job in omega arith;
   positive = λ j k. ⊎_elim (λ m. i.positive j m) (λ w. w.1.0) (n.jobs j k);
-  aside = λ j k. ⊎_elim (λ m. let a = i.aside j m in let b = n.counts j.id in omega arith) (λ w. w.1.1) (n.jobs j k);
+  aside = λ j k. ⊎_elim (λ m. let a = i.aside j m in let b = n.attempts.counts j.id in omega arith) (λ w. w.1.1) (n.jobs j k);
   in_turn = λ a b k l. turns s i a b (n.numbered a k) (n.numbered b l);
-}
+} where
+  of_job : (m : ℕ) → Named (λ (j : Job). j.id) m s.jobs → Named (λ (j : Job). j.id) m t.jobs
+  of_job m = named_kept (λ (j : Job). j.id) job_for_good m s.jobs t.jobs (λ x y e. ap (λ (j : Job). j.id) e) n.kept_jobs
 
--- nothing changes
-rests : (s : State) → Linked s → Next s s
-rests s i = record {
-  later = later_self s;
-  projects_rise = i.projects_rise;
-  runners_rise = i.runners_rise;
-  pipelines_rise = i.pipelines_rise;
-  project_below = i.project_below;
-  runner_below = i.runner_below;
-  pipeline_below = i.pipeline_below;
-  job_below = i.job_below;
-  next_job = omega arith;
-  numbered = was_there s;
-  counts = λ n. omega arith;
-  attempts = λ a k. inl k;
-  jobs = λ j k. inl k;
-  pipelines = λ p k. inl k;
-  needs = λ w k. inl k;
-}
+-- ---- what changes no pipeline and no job
+
+module _ (s : State) (i : Linked s) where
+  same_projects : Table (λ (p : Project). p.id) project_for_good s.projects s.projects s.next.project
+  same_projects = same_table (λ (p : Project). p.id) project_for_good s.projects s.next.project i.projects_rise i.project_below
+
+  same_runners : Table (λ (r : Runner). r.id) runner_for_good s.runners s.runners s.next.runner
+  same_runners = same_table (λ (r : Runner). r.id) runner_for_good s.runners s.next.runner i.runners_rise i.runner_below
+
+  same_pipelines : Table (λ (p : Pipeline). p.id) (λ p. p) s.pipelines s.pipelines s.next.pipeline
+  same_pipelines = same_table (λ (p : Pipeline). p.id) (λ p. p) s.pipelines s.next.pipeline i.pipelines_rise i.pipeline_below
+
+  with : (projects : List Project) (runners : List Runner) (attempts : List Attempt) (project runner attempt : ℕ) → Table (λ (p : Project). p.id) project_for_good s.projects projects project
+      → Table (λ (r : Runner). r.id) runner_for_good s.runners runners runner → Attempts s attempts s.jobs
+      → Next s (record s { projects = projects; runners = runners; attempts = attempts; next = record s.next { project = project; runner = runner; attempt = attempt } })
+  with projects runners attempts project runner attempt ps rs as_next = record {
+    projects = ps;
+    runners = rs;
+    pipelines = same_pipelines;
+    kept_jobs = kept job_for_good s.jobs s.jobs refl;
+    job_below = i.job_below;
+    next_job = omega arith;
+    attempts = as_next;
+    jobs = λ j k. inl k;
+    numbered = was_there s;
+    of_project = λ p k. inl k;
+    needs = λ w k. inl k;
+  }
+
+  with_projects : (projects : List Project) (next : ℕ) → Table (λ (p : Project). p.id) project_for_good s.projects projects next → Next s (record s { projects = projects; next = record s.next { project = next } })
+  with_projects projects next ps = with projects s.runners s.attempts next s.next.runner s.next.attempt ps same_runners (same_attempts s s.jobs)
+
+  with_runners : (runners : List Runner) (next : ℕ) → Table (λ (r : Runner). r.id) runner_for_good s.runners runners next → Next s (record s { runners = runners; next = record s.next { runner = next } })
+  with_runners runners next rs = with s.projects runners s.attempts s.next.project next s.next.attempt same_projects rs (same_attempts s s.jobs)
+
+  with_attempts : (attempts : List Attempt) (next : ℕ) → Attempts s attempts s.jobs → Next s (record s { attempts = attempts; next = record s.next { attempt = next } })
+  with_attempts attempts next as_next = with s.projects s.runners attempts s.next.project s.next.runner next same_projects same_runners as_next
 
 -- an attempt in place of one of its number, job, runner, token and grant
-alters : (s : State) (x a : Attempt) → Linked s → Rising (λ (b : Attempt). b.id) 0 s.attempts → Has a s.attempts → attempt_for_good x ≡ attempt_for_good a
-    → Next s (applied (Put (Record.Attempt x) ∷ []) s)
-alters s x a i r has good = record {
-  later = record {
-    projects = kept project_for_good s.projects s.projects refl;
-    runners = kept runner_for_good s.runners s.runners refl;
-    pipelines = kept (λ p. p) s.pipelines s.pipelines refl;
-    jobs = kept job_for_good s.jobs s.jobs refl;
-    attempts = kept_put (λ (b : Attempt). b.id) attempt_for_good x a s.attempts r has (ap (λ (b : Attempt). b.id) good) good;
-  };
-  projects_rise = i.projects_rise;
-  runners_rise = i.runners_rise;
-  pipelines_rise = i.pipelines_rise;
-  project_below = i.project_below;
-  runner_below = i.runner_below;
-  pipeline_below = i.pipeline_below;
-  job_below = i.job_below;
-  next_job = omega arith;
-  numbered = was_there s;
-  counts = λ n. passing_put (λ (b : Attempt). b.id) (λ (b : Attempt). b.job == n) x a s.attempts r has (ap (λ (b : Attempt). b.id) good) (ap (λ (b : Attempt). b.job == n) good);
-  attempts = λ b k. ⊎_elim
-      (λ e. let same_job : a.job ≡ b.job = sym (ap (λ (c : Attempt). c.job) e ∙ ap (λ (c : Attempt). c.job) good) in
-      let same_runner : a.runner ≡ b.runner = sym (ap (λ (c : Attempt). c.runner) e ∙ ap (λ (c : Attempt). c.runner) good) in
-      inr (subst (λ n. Named (λ (j : Job). j.id) n s.jobs) same_job (i.attempt_job a has), subst (λ n. Named (λ (q : Runner). q.id) n s.runners) same_runner (i.attempt_runner a has)))
-      (λ m. inl m) (has_put attempt_cmp x b s.attempts k);
-  jobs = λ j k. inl k;
-  pipelines = λ p k. inl k;
-  needs = λ w k. inl k;
-}
-
--- ---- a project's file
-
--- a project in place of one of its number, with another file
-files : (s : State) (project : Project) (text : Option (List ℕ)) → Linked s → Has project s.projects → Next s (applied (Put (Record.Project (record project { file = text })) ∷ []) s)
-files s project text i has =
-    let ids = λ (p : Project). p.id in
-    let x = record project { file = text } in
-    let n = rests s i in
+put_attempt : (s : State) (x a : Attempt) → Linked s → Rising (λ (b : Attempt). b.id) 0 s.attempts → Has a s.attempts → attempt_for_good x ≡ attempt_for_good a → Attempts s (put attempt_cmp x s.attempts) s.jobs
+put_attempt s x a i r has good =
+    let ids = λ (b : Attempt). b.id in
     record {
-      later = record {
-        projects = kept_put ids project_for_good x project s.projects i.projects_rise has refl refl;
-        runners = n.later.runners;
-        pipelines = n.later.pipelines;
-        jobs = n.later.jobs;
-        attempts = n.later.attempts;
-      };
-      projects_rise = rising_put ids x 0 s.projects i.projects_rise (omega arith);
-      runners_rise = n.runners_rise;
-      pipelines_rise = n.pipelines_rise;
-      project_below = below_put ids x s.next.project s.next.project s.projects i.project_below (omega arith) (i.project_below project has);
-      runner_below = n.runner_below;
-      pipeline_below = n.pipeline_below;
-      job_below = n.job_below;
-      next_job = n.next_job;
-      numbered = n.numbered;
-      counts = n.counts;
-      attempts = n.attempts;
-      jobs = n.jobs;
-      pipelines = λ p k. inl k;
-      needs = n.needs;
-    }
-
--- a runner in place of one of its number, paused or not
-pauses : (s : State) (runner : Runner) (paused : Bool) → Linked s → Has runner s.runners → Next s (applied (Put (Record.Runner (record runner { paused = paused })) ∷ []) s)
-pauses s runner paused i has =
-    let ids = λ (r : Runner). r.id in
-    let x = record runner { paused = paused } in
-    let n = rests s i in
-    record {
-      later = record {
-        projects = n.later.projects;
-        runners = kept_put ids runner_for_good x runner s.runners i.runners_rise has refl refl;
-        pipelines = n.later.pipelines;
-        jobs = n.later.jobs;
-        attempts = n.later.attempts;
-      };
-      projects_rise = n.projects_rise;
-      runners_rise = rising_put ids x 0 s.runners i.runners_rise (omega arith);
-      pipelines_rise = n.pipelines_rise;
-      project_below = n.project_below;
-      runner_below = below_put ids x s.next.runner s.next.runner s.runners i.runner_below (omega arith) (i.runner_below runner has);
-      pipeline_below = n.pipeline_below;
-      job_below = n.job_below;
-      next_job = n.next_job;
-      numbered = n.numbered;
-      counts = n.counts;
-      attempts = λ a k. inl k;
-      jobs = n.jobs;
-      pipelines = n.pipelines;
-      needs = n.needs;
-    }
-
--- variables and process modes are put, or go
-beside : (s : State) (vs : List Variable) (ms : List GroupMode) → Linked s → Next s (record s { variables = vs; modes = ms })
-beside s vs ms i =
-    let n = rests s i in
-    record {
-      later = record { projects = n.later.projects; runners = n.later.runners; pipelines = n.later.pipelines; jobs = n.later.jobs; attempts = n.later.attempts };
-      projects_rise = n.projects_rise;
-      runners_rise = n.runners_rise;
-      pipelines_rise = n.pipelines_rise;
-      project_below = n.project_below;
-      runner_below = n.runner_below;
-      pipeline_below = n.pipeline_below;
-      job_below = n.job_below;
-      next_job = n.next_job;
-      numbered = n.numbered;
-      counts = n.counts;
-      attempts = n.attempts;
-      jobs = n.jobs;
-      pipelines = n.pipelines;
-      needs = n.needs;
+      stay = kept_put ids attempt_for_good x a s.attempts r has (ap ids good) good;
+      linked = λ b k. ⊎_elim
+          (λ e. let same_job : a.job ≡ b.job = sym (ap (λ (c : Attempt). c.job) e ∙ ap (λ (c : Attempt). c.job) good) in
+          let same_runner : a.runner ≡ b.runner = sym (ap (λ (c : Attempt). c.runner) e ∙ ap (λ (c : Attempt). c.runner) good) in
+          inr (subst (λ n. Named (λ (j : Job). j.id) n s.jobs) same_job (i.attempt_job a has), subst (λ n. Named (λ (q : Runner). q.id) n s.runners) same_runner (i.attempt_runner a has)))
+          (λ m. inl m) (has_put attempt_cmp x b s.attempts k);
+      counts = λ n. passing_put ids (λ (b : Attempt). b.job == n) x a s.attempts r has (ap ids good) (ap (λ (b : Attempt). b.job == n) good);
     }
 
 -- ---- a new pipeline
@@ -368,27 +305,17 @@ enters s new project given now text laid i has named lays =
     = λ k l. let w = new_numbered s.next.pipeline s.next.job 0 is k (omega arith) (omega arith) in (w.0, (subst (Has w.0) (sym jobs) (has_right w.0 s.jobs made.jobs w.1.0), w.1.1)) in
     let within = pairs_inside text given laid lays in
     record {
-      later = record {
-        projects = kept project_for_good s.projects s.projects refl;
-        runners = kept runner_for_good s.runners s.runners refl;
-        pipelines = kept_new pids (λ w. w) made.pipeline s.next.pipeline s.pipelines i.pipeline_below (omega arith);
-        jobs = λ x k. (x, (subst (Has x) (sym jobs) (has_left x s.jobs made.jobs k), refl));
-        attempts = kept attempt_for_good s.attempts s.attempts refl;
-      };
-      projects_rise = i.projects_rise;
-      runners_rise = i.runners_rise;
-      pipelines_rise = rising_put pids made.pipeline 0 s.pipelines i.pipelines_rise (omega arith);
-      project_below = i.project_below;
-      runner_below = i.runner_below;
-      pipeline_below = below_put pids made.pipeline s.next.pipeline (s.next.pipeline + 1) s.pipelines i.pipeline_below (omega arith) (omega arith);
+      projects = same_projects s i;
+      runners = same_runners s i;
+      pipelines = new_in pids (λ w. w) made.pipeline s.pipelines i.pipelines_rise i.pipeline_below;
+      kept_jobs = λ x k. (x, (subst (Has x) (sym jobs) (has_left x s.jobs made.jobs k), refl));
       job_below = λ w k. ⊎_elim (λ m. let a : w.id < s.next.job = i.job_below w m in omega arith) (λ e. let b = e.below in omega arith) (cases w k);
       next_job = omega arith;
-      numbered = λ w k. ⊎_elim (λ m. was_there s w m) (λ e. inr (ap (λ (v : Job). v.pipeline) e.job, e.above)) (cases w k);
-      counts = λ n. omega arith;
-      attempts = λ a k. inl k;
+      attempts = same_attempts s t.jobs;
       jobs = λ w k. ⊎_elim (λ m. inl m)
           (λ e. inr (subst (λ n. Named pids n t.pipelines) (sym (ap (λ (v : Job). v.pipeline) e.job)) is_pipeline, (let a = e.above in let b = i.first_job in omega arith, let none : w.set_aside ≡ 0 = ap (λ (v : Job). v.set_aside) e.job in omega arith))) (cases w k);
-      pipelines = λ w k. ⊎_elim
+      numbered = λ w k. ⊎_elim (λ m. was_there s w m) (λ e. inr (ap (λ (v : Job). v.pipeline) e.job, e.above)) (cases w k);
+      of_project = λ w k. ⊎_elim
           (λ e. inr (project, (has, named ∙ sym (ap (λ (v : Pipeline). v.project) e))))
           (λ l. inl l) (has_put pipeline_cmp made.pipeline w s.pipelines k);
       needs = λ w k. ⊎_elim (λ m. inl m)
@@ -401,46 +328,37 @@ enters s new project given now text laid i has named lays =
 
 -- ---- a user acts on jobs
 
-acts : (s : State) (changes : List RowChange) (act : IsAct s changes) → Linked s → Rising (λ (j : Job). j.id) 0 s.jobs → Rising (λ (a : Attempt). a.id) 0 s.attempts → Next s (applied changes s)
+acts : (s : State) (changes : List RowChange) (act : IsAct s changes) → Linked s → Rising (λ (j : Job). j.id) 0 s.jobs → Rising (λ (a : Attempt). a.id) 0 s.attempts
+    → Next s (record s { jobs = put_all job_cmp act.jobs s.jobs; attempts = put_all attempt_cmp act.attempts s.attempts })
 acts s changes act i jr r =
     let jids = λ (j : Job). j.id in
     let aids = λ (a : Attempt). a.id in
     let t : State = record s { jobs = put_all job_cmp act.jobs s.jobs; attempts = put_all attempt_cmp act.attempts s.attempts } in
-    let rest = rests s i in
+    let kept_jobs = kept_all jids job_for_good (λ x y e. ap jids e) act.jobs s.jobs jr (λ j k. let w = act.each_job j k in (w.old, (w.has, w.good))) in
     let was_attempt : (a : Attempt) → Has a act.attempts → (b : Attempt) × (Has b s.attempts × (attempt_for_good a ≡ attempt_for_good b))
     = λ a k. let w = act.each_attempt a k in (w.old, (w.has, ap attempt_for_good w.is)) in
     let counts : (n : ℕ) → length (attempts_of s n) ≤ length (attempts_of t n)
     = λ n. passing_all aids attempt_for_good (λ x y e. ap aids e) (λ (b : Attempt). b.job == n) (λ x y e. ap (λ (b : Attempt). b.job == n) e) act.attempts s.attempts r was_attempt in
-    subst (Next s) (sym (after_act s changes act)) (record {
-      later = record {
-        projects = rest.later.projects;
-        runners = rest.later.runners;
-        pipelines = rest.later.pipelines;
-        jobs = kept_all jids job_for_good (λ x y e. ap jids e) act.jobs s.jobs jr (λ j k. let w = act.each_job j k in (w.old, (w.has, w.good)));
-        attempts = kept_all aids attempt_for_good (λ x y e. ap aids e) act.attempts s.attempts r was_attempt;
-      };
-      projects_rise = i.projects_rise;
-      runners_rise = i.runners_rise;
-      pipelines_rise = i.pipelines_rise;
-      project_below = i.project_below;
-      runner_below = i.runner_below;
-      pipeline_below = i.pipeline_below;
+    record {
+      projects = same_projects s i;
+      runners = same_runners s i;
+      pipelines = same_pipelines s i;
+      kept_jobs = kept_jobs;
       job_below = λ j k. ⊎_elim (λ m. i.job_below j m)
           (λ m. let w = act.each_job j m in subst (λ n. n < s.next.job) (sym (ap jids w.good)) (i.job_below w.old w.has))
           (has_all job_cmp act.jobs s.jobs j k);
       next_job = omega arith;
-      numbered = λ j k. ⊎_elim (λ m. was_there s j m)
-          (λ m. let w = act.each_job j m in inl (w.old, (w.has, (sym (ap jids w.good), sym (ap (λ (v : Job). v.pipeline) w.good)))))
-          (has_all job_cmp act.jobs s.jobs j k);
-      counts = counts;
-      attempts = λ a k. ⊎_elim (λ m. inl m)
-          (λ m. let w = act.each_attempt a m in
-          let named_job = kept_all jids job_for_good (λ x y e. ap jids e) act.jobs s.jobs jr (λ j l. let v = act.each_job j l in (v.old, (v.has, v.good))) in
-          inr (
-            subst (λ n. Named jids n t.jobs) (sym (ap (λ (b : Attempt). b.job) w.is)) (named_kept jids job_for_good w.old.job s.jobs t.jobs (λ x y e. ap jids e) named_job (i.attempt_job w.old w.has)),
-            subst (λ n. Named (λ (q : Runner). q.id) n s.runners) (sym (ap (λ (b : Attempt). b.runner) w.is)) (i.attempt_runner w.old w.has),
-          ))
-          (has_all attempt_cmp act.attempts s.attempts a k);
+      attempts = record {
+        stay = kept_all aids attempt_for_good (λ x y e. ap aids e) act.attempts s.attempts r was_attempt;
+        linked = λ a k. ⊎_elim (λ m. inl m)
+            (λ m. let w = act.each_attempt a m in
+            inr (
+              subst (λ n. Named jids n t.jobs) (sym (ap (λ (b : Attempt). b.job) w.is)) (named_kept jids job_for_good w.old.job s.jobs t.jobs (λ x y e. ap jids e) kept_jobs (i.attempt_job w.old w.has)),
+              subst (λ n. Named (λ (q : Runner). q.id) n s.runners) (sym (ap (λ (b : Attempt). b.runner) w.is)) (i.attempt_runner w.old w.has),
+            ))
+            (has_all attempt_cmp act.attempts s.attempts a k);
+        counts = counts;
+      };
       jobs = λ j k. ⊎_elim (λ m. inl m)
           (λ m. let w = act.each_job j m in
           let same : j.id ≡ w.old.id = ap jids w.good in
@@ -453,9 +371,12 @@ acts s changes act i jr r =
             (subst (λ n. 1 ≤ n) (sym same) (i.positive w.old w.has), subst (λ n. j.set_aside ≤ length (attempts_of t n)) (sym same) aside),
           ))
           (has_all job_cmp act.jobs s.jobs j k);
-      pipelines = λ p k. inl k;
+      numbered = λ j k. ⊎_elim (λ m. was_there s j m)
+          (λ m. let w = act.each_job j m in inl (w.old, (w.has, (sym (ap jids w.good), sym (ap (λ (v : Job). v.pipeline) w.good)))))
+          (has_all job_cmp act.jobs s.jobs j k);
+      of_project = λ p k. inl k;
       needs = λ w k. inl k;
-    })
+    }
 
 -- ---- each step
 
@@ -463,157 +384,32 @@ acts s changes act i jr r =
 abbrev pub Follows : State → Event → Answer → State → Type 0
 Follows s e a t = Next s t ⊎ IsPruned s e a t
 
-abbrev Goes : State → Request → Plan → Type 0
-Goes s request plan = Follows s (Event.Request request) (Answer.Reply plan.0) (applied plan.1 s)
-
-goes : (s : State) (board : List BoardRow) (request : Request) → Linked s → Rising (λ (j : Job). j.id) 0 s.jobs → Rising (λ (a : Attempt). a.id) 0 s.attempts → Below (λ (a : Attempt). a.id) s.next.attempt s.attempts → Each s board request (Goes s request)
-goes s board request i jr r b = record {
-  refused = λ c m. inl (rests s i);
-  faulted = λ d. inl (rests s i);
-  project = λ name seed. inl (record {
-    later = record {
-      projects = kept_new (λ (w : Project). w.id) project_for_good _ s.next.project s.projects i.project_below (omega arith);
-      runners = kept runner_for_good s.runners s.runners refl;
-      pipelines = kept (λ p. p) s.pipelines s.pipelines refl;
-      jobs = kept job_for_good s.jobs s.jobs refl;
-      attempts = kept attempt_for_good s.attempts s.attempts refl;
-    };
-    projects_rise = rising_put (λ (w : Project). w.id) _ 0 s.projects i.projects_rise (omega arith);
-    runners_rise = i.runners_rise;
-    pipelines_rise = i.pipelines_rise;
-    project_below = below_put (λ (w : Project). w.id) _ s.next.project (s.next.project + 1) s.projects i.project_below (omega arith) (omega arith);
-    runner_below = i.runner_below;
-    pipeline_below = i.pipeline_below;
-    job_below = i.job_below;
-    next_job = omega arith;
-    numbered = was_there s;
-    counts = λ n. omega arith;
-    attempts = λ a k. inl k;
-    jobs = λ j k. inl k;
-    pipelines = λ p k. inl k;
-    needs = λ w k. inl k;
-  });
-  runner = λ new seed. inl (record {
-    later = record {
-      projects = kept project_for_good s.projects s.projects refl;
-      runners = kept_new (λ (w : Runner). w.id) runner_for_good _ s.next.runner s.runners i.runner_below (omega arith);
-      pipelines = kept (λ p. p) s.pipelines s.pipelines refl;
-      jobs = kept job_for_good s.jobs s.jobs refl;
-      attempts = kept attempt_for_good s.attempts s.attempts refl;
-    };
-    projects_rise = i.projects_rise;
-    runners_rise = rising_put (λ (w : Runner). w.id) _ 0 s.runners i.runners_rise (omega arith);
-    pipelines_rise = i.pipelines_rise;
-    project_below = i.project_below;
-    runner_below = below_put (λ (w : Runner). w.id) _ s.next.runner (s.next.runner + 1) s.runners i.runner_below (omega arith) (omega arith);
-    pipeline_below = i.pipeline_below;
-    job_below = i.job_below;
-    next_job = omega arith;
-    numbered = was_there s;
-    counts = λ n. omega arith;
-    attempts = λ a k. inl k;
-    jobs = λ j k. inl k;
-    pipelines = λ p k. inl k;
-    needs = λ w k. inl k;
-  });
-  paused = λ runner paused has. inl (pauses s runner paused i has);
-  file = λ project text c has. inl (files s project (Some text) i has);
-  variable = λ project new. inl (beside s (put variable_cmp (record { project = project.id; key = new.key; value = new.value }) s.variables) s.modes i);
-  gone = λ v. inl (beside s _ s.modes i);
-  mode = λ new is m. inl (beside s s.variables (put mode_cmp m s.modes) i);
-  unordered = λ new is project group. inl (beside s s.variables _ i);
-  mode_shown = λ group order. inl (rests s i);
-  pipeline = λ new now is project text laid claims rows asked has named file lays.
-      inl (subst (Next s) (sym (after_creation s.next.job (creation s.next.pipeline s.next.job new (given_in s new) now laid) s)) (enters s new project (given_in s new) now text laid i has named lays));
-  nothing = inl (rests s i);
-  granted = λ runner job q variables now seed has_runner has_job pending is_queued free. let its_job : job.id ≡ q.job.id = ap (λ (w : QueuedJob). w.job.id) is_queued in inl (record {
-    later = record {
-      projects = kept project_for_good s.projects s.projects refl;
-      runners = kept runner_for_good s.runners s.runners refl;
-      pipelines = kept (λ p. p) s.pipelines s.pipelines refl;
-      jobs = kept job_for_good s.jobs s.jobs refl;
-      attempts = kept_new (λ (w : Attempt). w.id) attempt_for_good _ s.next.attempt s.attempts b (omega arith);
-    };
-    projects_rise = i.projects_rise;
-    runners_rise = i.runners_rise;
-    pipelines_rise = i.pipelines_rise;
-    project_below = i.project_below;
-    runner_below = i.runner_below;
-    pipeline_below = i.pipeline_below;
-    job_below = i.job_below;
-    next_job = omega arith;
-    numbered = was_there s;
-    counts = λ n. passing_new (λ (w : Attempt). w.id) (λ (w : Attempt). w.job == n) _ s.next.attempt s.attempts b (omega arith);
-    attempts = λ a k. ⊎_elim
-        (λ e. inr ((job, (has_job, its_job ∙ sym (ap (λ (w : Attempt). w.job) e))), (runner, (has_runner, sym (ap (λ (w : Attempt). w.runner) e)))))
-        (λ m. inl m) (has_put attempt_cmp _ a s.attempts k);
-    jobs = λ j k. inl k;
-    pipelines = λ p k. inl k;
-    needs = λ w k. inl k;
-  });
-  turned_away = λ fault. inl (rests s i);
-  heard = λ a seen has. inl (alters s (record a { seen = seen }) a i r has refl);
-  ended = λ a state has.
-      let x = record a { state = state } in
-      inl (cond_both (is_live a) (Put (Record.Attempt x) ∷ []) [] (λ cs. Next s (applied cs s)) (λ _. alters s x a i r has refl) (λ _. rests s i));
-  misplaced = λ fault. inl (rests s i);
-  grown = λ a bytes now size has. inl (grows a bytes now size has);
-  pipeline_shown = λ p claims jobs facts rows. inl (rests s i);
-  shown = λ claims project job status. inl (rests s i);
-  traced = λ trace. inl (rests s i);
-  read = λ body. inl (rests s i);
-  acted = λ text changes act. inl (acts s changes act i jr r);
-  pruned = λ p before is found. inr (record {
-    pipeline = p;
-    has = (has_find (is_prunable s board before) p s.pipelines found).0;
-    before = before;
-    asked = ap Event.Request is;
-    answered = refl;
-    state = pruned_state s p.id jr r p refl;
-  });
+goes : (s : State) (board : List BoardRow) (e : Event) → Linked s → Rising (λ (j : Job). j.id) 0 s.jobs → Rising (λ (a : Attempt). a.id) 0 s.attempts → Below (λ (a : Attempt). a.id) s.next.attempt s.attempts → EachNext s board e (Follows s e)
+goes s board e i jr r b = record {
+  stays = λ _. inl rests;
+  project = λ _ name seed. inl (with_projects s i _ _ (new_in (λ (p : Project). p.id) project_for_good _ s.projects i.projects_rise i.project_below));
+  runner = λ _ new seed. inl (with_runners s i _ _ (new_in (λ (q : Runner). q.id) runner_for_good _ s.runners i.runners_rise i.runner_below));
+  paused = λ _ runner paused has. inl (with_runners s i _ _ (put_in (λ (q : Runner). q.id) runner_for_good _ runner s.runners s.next.runner i.runners_rise i.runner_below has refl refl));
+  file = λ _ project text has. inl (with_projects s i _ _ (put_in (λ (p : Project). p.id) project_for_good _ project s.projects s.next.project i.projects_rise i.project_below has refl refl));
+  variables = λ _ vs. inl rests;
+  modes = λ _ new is ms. inl rests;
+  pipeline = λ new now is project text laid claims rows asked has named file lays fits. inl (enters s new project (given_in s new) now text laid i has named lays);
+  granted = λ _ runner job q variables now seed has_runner has_job pending is_queued free.
+      let its_job : job.id ≡ q.job.id = ap (λ (w : QueuedJob). w.job.id) is_queued in
+      inl (with_attempts s i _ _ (record {
+        stay = kept_new (λ (w : Attempt). w.id) attempt_for_good _ s.next.attempt s.attempts b (omega arith);
+        linked = λ a k. ⊎_elim
+            (λ e. inr ((job, (has_job, its_job ∙ sym (ap (λ (w : Attempt). w.job) e))), (runner, (has_runner, sym (ap (λ (w : Attempt). w.runner) e)))))
+            (λ m. inl m) (has_put attempt_cmp _ a s.attempts k);
+        counts = λ n. passing_new (λ (w : Attempt). w.id) (λ (w : Attempt). w.job == n) _ s.next.attempt s.attempts b (omega arith);
+      }));
+  alters = λ _ old seen state traces has live. inl (with_attempts s i _ s.next.attempt (put_attempt s _ old i r has refl));
+  acted = λ _ changes act. inl (acts s changes act i jr r);
+  pruned = λ p before is found. inr (record { pipeline = p; has = (has_find (is_prunable s board before) p s.pipelines found).0; before = before; asked = is; answered = refl; state = refl });
 } where
-  grows : (a : Attempt) (bytes : List ℕ) (now size : ℕ) → Has a s.attempts → Next s (applied (traces_grown a bytes now size).1 s)
-  grows a bytes now size has =
-      let n = alters s (record a { seen = max a.seen now }) a i r has refl in
-      record {
-        later = record { projects = n.later.projects; runners = n.later.runners; pipelines = n.later.pipelines; jobs = n.later.jobs; attempts = n.later.attempts };
-        projects_rise = n.projects_rise;
-        runners_rise = n.runners_rise;
-        pipelines_rise = n.pipelines_rise;
-        project_below = n.project_below;
-        runner_below = n.runner_below;
-        pipeline_below = n.pipeline_below;
-        job_below = n.job_below;
-        next_job = n.next_job;
-        numbered = n.numbered;
-        counts = n.counts;
-        attempts = n.attempts;
-        jobs = n.jobs;
-        pipelines = n.pipelines;
-        needs = n.needs;
-      }
-
--- ---- sweeps
-
-swept_next : (s : State) (board : List BoardRow) (now : ℕ) → Linked s → Rising (λ (j : Job). j.id) 0 s.jobs → Rising (λ (a : Attempt). a.id) 0 s.attempts → (o : Option Lease) → first_due (leases s) now ≡ o → (redundant : Option Pipeline)
-    → Next s (applied (sweep o redundant s.attempts (cancellable_in s board redundant)).1 s)
-swept_next s board now i jr r None found None = rests s i
-swept_next s board now i jr r None found (Some p) =
-    acts s (cancel s.attempts (cancellable_jobs s board p.id)) (cancels s (cancellable_jobs s board p.id) (cancellable_within s board p.id)) i jr r
-swept_next s board now i jr r (Some l) found redundant =
-    let at = find-map (lease_of s) (λ (w : Lease). is_over w.attempt w.limit now) l (live_attempts s) found in
-    let is : at.0 ≡ l.attempt = ap (λ (w : Lease). w.attempt) at.1.0 in
-    let live = has_find (λ (b : Attempt). is_over b (lease_of s b).limit now) at.0 (live_attempts s) at.1.1 in
-    let has = has_filter is_live at.0 s.attempts live.0 in
-    alters s _ l.attempt i r (subst (λ (b : Attempt). Has b s.attempts) is has.0) refl
-
--- ---- any event
+  rests : Next s s
+  rests = with_attempts s i s.attempts s.next.attempt (same_attempts s s.jobs)
 
 pub follows : (s : State) (board : List BoardRow) (e : Event) (now : ℕ) (seed : Seed) (a : Answer) (changes : List RowChange) → Linked s → Rising (λ (w : Job). w.id) 0 s.jobs → Rising (λ (w : Attempt). w.id) 0 s.attempts → Below (λ (w : Attempt). w.id) s.next.attempt s.attempts
     → Happens s board e now seed a changes → Follows s e a (applied changes s)
-follows s board (Event.Request request) now seed (Answer.Reply reply) changes i jr r b is = does s board (Goes s request) request (goes s board request i jr r b) now seed (reply, changes) is
-follows s board Event.Sweep now seed (Answer.Swept swept) changes i jr r b is =
-    let P : Swept × List RowChange → Type 0 = λ f. Next s (applied f.1 s) in
-    inl (subst P (sym is) (swept_next s board now i jr r (first_due (leases s) now) refl (redundant_in s board)))
-follows s board (Event.Request request) now seed (Answer.Swept swept) changes i jr r b is = absurd is
-follows s board Event.Sweep now seed (Answer.Reply reply) changes i jr r b is = absurd is
+follows s board e now seed a changes i jr r b = next_is s board jr r (Follows s e) e now seed a changes (goes s board e i jr r b)

@@ -7,18 +7,16 @@ use Rattle.std.specs.Cmp.Lexicographic.{slice_cmp}
 use Rattle.std.proofs.lemmas.Bool.{cond_both, cond-true, cond-false, cases_Bool, both_ways, and_parts}
 use Rattle.std.proofs.lemmas.Map.Text.{is_eq-slice_cmp}
 use Rattle.std.proofs.lemmas.Slice.Eq.{bytes_eq-Decides}
-use Rattle.ci_machine_steps.specs.Prelude.{Lease, Attempt, BoardRow, Job, Pipeline, Project, GroupMode, GroupOrder, NewMode, Request, AddProject, AddRunner, PauseRunner, SetFile}
-use Rattle.ci_machine_steps.specs.Prelude.{SetVariable, DeleteVariable, SetMode, ShowMode, CreatePipeline, ShowPipeline, AskJob, UpdateJob, AppendTrace, ShowJob, ShowTrace, Read}
-use Rattle.ci_machine_steps.specs.Prelude.{Play, CancelJob, CancelPipeline, RetryJob, PruneOne, Event, Seed, Answer, Code, Swept, RowChange, Put, Record, is_live, first_due, State}
-use Rattle.ci_machine_steps.specs.Prelude.{placed, mode_cmp, applied, is_mode_of, Plan, mode_change, set_mode, creation, cancellable_jobs, cancel, sweep, Happens, Step, leases}
-use Rattle.ci_machine_steps.specs.Prelude.{redundant_in, cancellable_in, IsReached, IsRefusal}
-use Rattle.ci_machine.proofs.Keyed.{Has, Rising, has_filter, same, equal}
+use Rattle.ci_machine_steps.specs.Prelude.{BoardRow, Project, GroupMode, GroupOrder, NewMode}
+use Rattle.ci_machine_steps.specs.Prelude.{SetMode}
+use Rattle.ci_machine_steps.specs.Prelude.{Event, Seed, Answer, Code, State}
+use Rattle.ci_machine_steps.specs.Prelude.{placed, mode_cmp, applied, is_mode_of, Plan, mode_change, set_mode, Step}
+use Rattle.ci_machine_steps.specs.Prelude.{IsReached, IsRefusal}
+use Rattle.ci_machine.proofs.Keyed.{Has, has_filter, same, equal}
 use Rattle.ci_machine.proofs.Filters.{find_implied}
 use Rattle.ci_machine_laws.specs.Modes.{SetsMode}
-use Rattle.ci_machine_steps.proofs.Created.{after_creation}
-use Rattle.ci_machine_steps.proofs.Pruned.{pruned_state}
-use Rattle.ci_machine_laws.proofs.Acts.{cancels, cancellable_within, after_act}
-use Rattle.ci_machine_laws.proofs.EachPlan.{Asked, of_asked, is_asked, given_in, Each, does}
+use Rattle.ci_machine_laws.proofs.EachPlan.{Asked, of_asked, is_asked}
+use Rattle.ci_machine_laws.proofs.EachNext.{EachNext, next_is}
 use Rattle.ci_machine_laws.proofs.Reached.{reached}
 
 -- ---- keys
@@ -132,84 +130,23 @@ sets_mode s t new now seed (Answer.Swept swept) step fine = absurd step.happens
 
 -- ---- each other event
 
-abbrev IsSetting : Request → Type 0
-IsSetting (SetMode new) = Unit {0}
-IsSetting _ = ⊥
-
-abbrev Keeps : State → Request → Plan → Type 0
-Keeps s request plan = (IsSetting request → ⊥) → (applied plan.1 s).modes ≡ s.modes
-
-each : (s : State) (board : List BoardRow) (request : Request) → Rising (λ (j : Job). j.id) 0 s.jobs → Rising (λ (a : Attempt). a.id) 0 s.attempts → Each s board request (Keeps s request)
-each s board request jobs_rise rise = record {
-  refused = λ c m _. refl;
-  faulted = λ d _. refl;
-  project = λ name seed _. refl;
-  runner = λ new seed _. refl;
-  paused = λ runner paused has _. refl;
-  file = λ project text c has _. refl;
-  variable = λ project new _. refl;
-  gone = λ v _. refl;
-  mode = λ new is m other. absurd (other (subst IsSetting (sym is) tt));
-  unordered = λ new is project group other. absurd (other (subst IsSetting (sym is) tt));
-  mode_shown = λ group order _. refl;
-  pipeline = λ new now is project text laid claims rows asked has named file lays _. ap (λ (t : State). t.modes) (after_creation s.next.job (creation s.next.pipeline s.next.job new (given_in s new) now laid) s);
-  nothing = λ _. refl;
-  granted = λ runner job q variables now seed has_runner has_job pending is_queued free _. refl;
-  turned_away = λ fault _. refl;
-  heard = λ a seen has _. refl;
-  ended = λ a state has.
-      cond_both (is_live a) (Put (Record.Attempt (record a { state = state })) ∷ []) [] (λ cs. (IsSetting request → ⊥) → (applied cs s).modes ≡ s.modes) (λ _ _. refl) (λ _ _. refl);
-  misplaced = λ fault _. refl;
-  grown = λ a bytes now size has _. refl;
-  pipeline_shown = λ p claims jobs facts rows _. refl;
-  shown = λ claims project job status _. refl;
-  traced = λ trace _. refl;
-  read = λ body _. refl;
-  acted = λ text changes act _. ap (λ (t : State). t.modes) (after_act s changes act);
-  pruned = λ p before asks found _. ap (λ (t : State). t.modes) (pruned_state s p.id jobs_rise rise p refl);
+keeps : (s : State) (board : List BoardRow) (e : Event) → ((new : NewMode) → e ≡ Event.Request (SetMode new) → ⊥) → EachNext s board e (λ _ t. t.modes ≡ s.modes)
+keeps s board e other = record {
+  stays = λ _. refl;
+  project = λ _ name seed. refl;
+  runner = λ _ new seed. refl;
+  paused = λ _ runner paused has. refl;
+  file = λ _ project text has. refl;
+  variables = λ _ vs. refl;
+  modes = λ _ new is ms. absurd (other new is);
+  pipeline = λ new now is project text laid claims rows asked has named file lays fits. refl;
+  granted = λ _ runner job q variables now seed has_runner has_job pending is_queued free. refl;
+  alters = λ _ old seen state traces has live. refl;
+  acted = λ _ changes act. refl;
+  pruned = λ p before is found. refl;
 }
-
-swept : (s : State) (board : List BoardRow) (o : Option Lease) (redundant : Option Pipeline) → (applied (sweep o redundant s.attempts (cancellable_in s board redundant)).1 s).modes ≡ s.modes
-swept s board None None = refl
-swept s board None (Some p) =
-    let jobs = cancellable_jobs s board p.id in
-    ap (λ (t : State). t.modes) (after_act s (cancel s.attempts jobs) (cancels s jobs (cancellable_within s board p.id)))
-swept s board (Some l) redundant = refl
-
-setting : (e : Event) → ((new : NewMode) → e ≡ Event.Request (SetMode new) → ⊥) → (request : Request) → e ≡ Event.Request request → IsSetting request → ⊥
-setting e other (SetMode new) is it = other new is
-setting e other (AddProject x) is it = it
-setting e other (AddRunner x) is it = it
-setting e other (PauseRunner x) is it = it
-setting e other (SetFile x) is it = it
-setting e other (SetVariable x) is it = it
-setting e other (DeleteVariable x) is it = it
-setting e other (ShowMode x) is it = it
-setting e other (CreatePipeline x) is it = it
-setting e other (ShowPipeline x) is it = it
-setting e other (AskJob x) is it = it
-setting e other (UpdateJob x) is it = it
-setting e other (AppendTrace x) is it = it
-setting e other (ShowJob x) is it = it
-setting e other (ShowTrace x) is it = it
-setting e other (Read x) is it = it
-setting e other (Play x) is it = it
-setting e other (CancelJob x) is it = it
-setting e other (CancelPipeline x) is it = it
-setting e other (RetryJob x) is it = it
-setting e other (PruneOne x) is it = it
-
-stay : (s : State) (board : List BoardRow) (e : Event) (now : ℕ) (seed : Seed) (a : Answer) (changes : List RowChange) → Rising (λ (j : Job). j.id) 0 s.jobs → Rising (λ (w : Attempt). w.id) 0 s.attempts
-    → ((new : NewMode) → e ≡ Event.Request (SetMode new) → ⊥) → Happens s board e now seed a changes → (applied changes s).modes ≡ s.modes
-stay s board (Event.Request request) now seed (Answer.Reply reply) changes jobs_rise rise other is =
-    does s board (Keeps s request) request (each s board request jobs_rise rise) now seed (reply, changes) is (setting (Event.Request request) other request refl)
-stay s board Event.Sweep now seed (Answer.Swept out) changes jobs_rise rise other is =
-    let P : Swept × List RowChange → Type 0 = λ f. (applied f.1 s).modes ≡ s.modes in
-    subst P (sym is) (swept s board (first_due (leases s) now) (redundant_in s board))
-stay s board (Event.Request request) now seed (Answer.Swept out) changes jobs_rise rise other is = absurd is
-stay s board Event.Sweep now seed (Answer.Reply reply) changes jobs_rise rise other is = absurd is
 
 pub modes_stay : (s t : State) (e : Event) (now : ℕ) (seed : Seed) (a : Answer) → IsReached s → ((new : NewMode) → e ≡ Event.Request (SetMode new) → ⊥) → Step s e now seed a t → t.modes ≡ s.modes
 modes_stay s t e now seed a reaches other step =
     let grants = (reached reaches.0 s reaches.1).grants in
-    ap (λ (w : State). w.modes) step.state ∙ stay s step.before e now seed a step.changes grants.jobs_rise grants.rise other step.happens
+    ap (λ (w : State). w.modes) step.state ∙ next_is s step.before grants.jobs_rise grants.rise (λ _ w. w.modes ≡ s.modes) e now seed a step.changes (keeps s step.before e other) step.happens

@@ -178,7 +178,7 @@ creates h s new now seed plan i is =
     let r = CreatePipeline new in
     let other : IsOther r = (λ a. refl, λ a n. refl) in
     of_creation s (After h s (Event.Request r) now seed) (refuses h s r now seed i other) (faults h s r now seed i other) new now plan
-    (λ project text laid claims rows asked has named file lays.
+    (λ project text laid claims rows asked has named file lays fits.
     let made = creation s.next.pipeline s.next.job new (given_in s new) now laid in
     let e = after_creation s.next.job made s in
     stands h s r now seed i other (pipeline_created s.next.job made claims rows) (ap (λ (t : State). t.attempts) e) (ap (λ (t : State). t.traces) e) (ap (λ (t : State). t.next.attempt) e)
