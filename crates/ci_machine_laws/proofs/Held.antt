@@ -65,20 +65,15 @@ held (p ∷ h) s l =
           (λ w. subst Linked (sym w.state) (linked_left p.before w.pipeline.id g.jobs_rise g.rise i.linked i.joined))
           next;
       joined = next_is p.before l.1.before g.jobs_rise g.rise (λ _ w. Joined w.jobs w.needs) p.event p.now p.seed p.answer l.1.changes (joined_on p.before l.1.before p.event i.linked i.joined) l.1.happens;
-      stays = λ q k. ⊎_elim
-          (λ e. subst (λ (w : Past). Since (p ∷ h) w.before t) (sym e) one)
-          (λ m. since_through p h q.before p.before t (i.stays q m) one) k;
-      swept = λ q k. ⊎_elim
-          (λ e. subst (λ (w : Past). IsSweptBy w.before w.now w.event w.answer) (sym e) (swept_by p.before l.1.before p.event p.now p.seed p.answer l.1.changes l.1.are_before i.linked.pipelines_rise g.rise l.1.happens))
-          (λ m. i.swept q m) k;
-      pruned = λ q k. ⊎_elim
-          (λ e. subst (λ (w : Past). IsPrunedBy w.before w.event w.answer) (sym e) (pruned_by p.before l.1.before p.event p.now p.seed p.answer l.1.changes l.1.are_before i.linked.pipelines_rise l.1.happens))
-          (λ m. i.pruned q m) k;
+      stays = also (λ w. Since (p ∷ h) w.before t) one (λ q m. since_through p h q.before p.before t (i.stays q m) one);
+      swept = also (λ w. IsSweptBy w.before w.now w.event w.answer) (swept_by p.before l.1.before p.event p.now p.seed p.answer l.1.changes l.1.are_before i.linked.pipelines_rise g.rise l.1.happens) i.swept;
+      pruned = also (λ w. IsPrunedBy w.before w.event w.answer) (pruned_by p.before l.1.before p.event p.now p.seed p.answer l.1.changes l.1.are_before i.linked.pipelines_rise l.1.happens) i.pruned;
       variables = changes_ordered l.1.changes p.before i.variables;
-      in_order = λ q k. ⊎_elim
-          (λ e. subst (λ (w : Past). is_grant w.event w.answer ≡ true → GivesInOrder w.before w.answer) (sym e) (gives_in_order p.before l.1.before p.event p.now p.seed p.answer l.1.changes i.variables l.1.happens))
-          (λ m. i.in_order q m) k;
+      in_order = also (λ w. is_grant w.event w.answer ≡ true → GivesInOrder w.before w.answer) (gives_in_order p.before l.1.before p.event p.now p.seed p.answer l.1.changes i.variables l.1.happens) i.in_order;
     })
+  where
+    also : (P : Past → Type 0) → P p → ((q : Past) → Has q h → P q) → (q : Past) → Has q (p ∷ h) → P q
+    also P newest others q k = ⊎_elim (λ e. subst P (sym e) newest) (others q) k
 
 pub is_linked : (s : State) → Linked s → IsLinked s
 is_linked s i = record {

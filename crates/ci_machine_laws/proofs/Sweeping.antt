@@ -75,43 +75,19 @@ some_none zero test h = refl
 some_none (suc n) test h = rw (h n (omega arith)) (some_none n test (λ k l. h k (omega arith)))
 
 -- what can't be cancelled is none of these
-not_running : (s : Status) → is_cancellable s ≡ false → is_status Status.Running s ≡ false
-not_running Status.Created e = refl
-not_running Status.Pending e = refl
-not_running Status.Running e = absurd (false≢true (sym e))
-not_running Status.Success e = refl
-not_running Status.Failed e = refl
-not_running Status.Canceled e = refl
-not_running Status.Skipped e = refl
-not_running Status.Manual e = refl
-
-not_pending : (s : Status) → is_cancellable s ≡ false → is_status Status.Pending s ≡ false
-not_pending Status.Created e = refl
-not_pending Status.Pending e = absurd (false≢true (sym e))
-not_pending Status.Running e = refl
-not_pending Status.Success e = refl
-not_pending Status.Failed e = refl
-not_pending Status.Canceled e = refl
-not_pending Status.Skipped e = refl
-not_pending Status.Manual e = refl
-
-not_manual : (s : Status) → is_cancellable s ≡ false → is_status Status.Manual s ≡ false
-not_manual Status.Created e = refl
-not_manual Status.Pending e = refl
-not_manual Status.Running e = refl
-not_manual Status.Success e = refl
-not_manual Status.Failed e = refl
-not_manual Status.Canceled e = refl
-not_manual Status.Skipped e = refl
-not_manual Status.Manual e = absurd (false≢true (sym e))
+not_active : (s : Status) → is_cancellable s ≡ false → (is_status Status.Running s ≡ false) × (is_status Status.Pending s ≡ false) × (is_status Status.Manual s ≡ false)
+not_active Status.Running e = absurd (false≢true (sym e))
+not_active Status.Pending e = absurd (false≢true (sym e))
+not_active Status.Manual e = absurd (false≢true (sym e))
+not_active s e = (refl, refl, refl)
 
 -- a pipeline without jobs that can be cancelled is finished
 is_finished : (parts : List Part) (facts : List Facts) (a : ℕ → Status) → ((k : ℕ) → k < length parts → is_cancellable (a k) ≡ false) → is_unfinished (pipeline_status parts facts a) ≡ false
 is_finished parts facts a h =
     let n = length parts in
-    let runs : some_job n (has_status a Status.Running) ≡ false = some_none n (has_status a Status.Running) (λ k l. not_running (a k) (h k l)) in
-    let waits : some_job n (has_status a Status.Pending) ≡ false = some_none n (has_status a Status.Pending) (λ k l. not_pending (a k) (h k l)) in
-    let manual : some_job n (has_strict parts facts a Status.Manual) ≡ false = some_none n (has_strict parts facts a Status.Manual) (λ k l. and_left (is_status Status.Manual (a k)) _ (not_manual (a k) (h k l))) in
+    let runs : some_job n (has_status a Status.Running) ≡ false = some_none n (has_status a Status.Running) (λ k l. (not_active (a k) (h k l)).0) in
+    let waits : some_job n (has_status a Status.Pending) ≡ false = some_none n (has_status a Status.Pending) (λ k l. (not_active (a k) (h k l)).1) in
+    let manual : some_job n (has_strict parts facts a Status.Manual) ≡ false = some_none n (has_strict parts facts a Status.Manual) (λ k l. and_left (is_status Status.Manual (a k)) _ (not_active (a k) (h k l)).2) in
     rw runs (rw waits (rw manual (
     cond_both (some_job n (has_strict parts facts a Status.Failed)) Status.Failed _ (λ s. is_unfinished s ≡ false) (λ _. refl) (λ _.
     cond_both (some_job n (has_strict parts facts a Status.Canceled)) Status.Canceled _ (λ s. is_unfinished s ≡ false) (λ _. refl) (λ _.
@@ -135,15 +111,12 @@ same_effect : (part : Part) (f g : Facts) (gives_needs : Bool) (s : Status) → 
 same_effect part f g gives_needs Status.Created same closed = absurd (false≢true (sym closed))
 same_effect part f g gives_needs Status.Pending same closed = absurd (false≢true (sym closed))
 same_effect part f g gives_needs Status.Running same closed = absurd (false≢true (sym closed))
-same_effect part f g gives_needs Status.Success same closed = refl
-same_effect part f g gives_needs Status.Failed same closed = ap (λ (h : Facts). effect part h gives_needs Status.Failed) (same refl)
-same_effect part f g gives_needs Status.Canceled same closed = ap (λ (h : Facts). effect part h gives_needs Status.Canceled) (same refl)
-same_effect part f g gives_needs Status.Skipped same closed = refl
 same_effect part f g gives_needs Status.Manual same closed =
     ⊎_elim
     (λ e. cond-true (is_allowed part g Status.Canceled) Good Bars (allowed_once part.allow_failure f g e) ∙ sym (cond-true (is_allowed part f Status.Manual) Good Open e))
     (λ e. absurd (false≢true (sym closed ∙ ap is_open (cond-false (is_allowed part f Status.Manual) Good Open e))))
     (cases_Bool (is_allowed part f Status.Manual))
+same_effect part f g gives_needs s same closed = ap (λ (h : Facts). effect part h gives_needs s) (same refl)
 
 none_open : (es : List Effect) → list_any is_open es ≡ false → (e : Effect) → Has e es → is_open e ≡ false
 none_open es none e k = false_from_ne_true (is_open e) (λ t. both_ways (list_any is_open es) none (has_any is_open e es k t))
@@ -649,24 +622,20 @@ module _ (now : ℕ) (seed : Seed) (h : List Past) (s : State) (leads : Leads h 
         none_redundant = rest.none_redundant;
       }
 
+-- a sweep is made, and where it does something, others follow it
+sweeps_on : OneAssignment → (now : ℕ) (seed : Seed) (h : List Past) (s : State) → Leads h s → (one : HasOneBoard s)
+    → ((g : List Past) (t : State) → Leads g t → (its : HasOneBoard t) → unended t its.board + 1 ≤ unended s one.board → EndsBy now t its.board) → EndsBy now s one.board
+sweeps_on law now seed h s leads one rest =
+    let m = made law h s leads now seed in
+    ⊎_elim
+    (λ e. done now seed h s leads one m.0 m.1 m.2 e)
+    (λ d.
+    let line : Past = record { before = s; event = Event.Sweep; now = now; seed = seed; answer = Answer.Swept m.0 } in
+    let its = one_board law (line ∷ h) m.1 (leads, m.2) in
+    let less = leaves_less law h s leads now seed m.0 m.1 one its m.2 d in
+    more now seed h s leads one m.0 m.1 m.2 d its.board less (rest (line ∷ h) m.1 (leads, m.2) its less))
+    (nothing_or m.0)
+
 pub ends_by : OneAssignment → (now : ℕ) (seed : Seed) (n : ℕ) (h : List Past) (s : State) → Leads h s → (one : HasOneBoard s) → unended s one.board ≤ n → EndsBy now s one.board
-ends_by law now seed zero h s leads one few =
-    let m = made law h s leads now seed in
-    ⊎_elim
-    (λ e. done now seed h s leads one m.0 m.1 m.2 e)
-    (λ d.
-    let line : Past = record { before = s; event = Event.Sweep; now = now; seed = seed; answer = Answer.Swept m.0 } in
-    let its = one_board law (line ∷ h) m.1 (leads, m.2) in
-    let less = leaves_less law h s leads now seed m.0 m.1 one its m.2 d in
-    absurd (omega arith))
-    (nothing_or m.0)
-ends_by law now seed (suc n) h s leads one few =
-    let m = made law h s leads now seed in
-    ⊎_elim
-    (λ e. done now seed h s leads one m.0 m.1 m.2 e)
-    (λ d.
-    let line : Past = record { before = s; event = Event.Sweep; now = now; seed = seed; answer = Answer.Swept m.0 } in
-    let its = one_board law (line ∷ h) m.1 (leads, m.2) in
-    let less = leaves_less law h s leads now seed m.0 m.1 one its m.2 d in
-    more now seed h s leads one m.0 m.1 m.2 d its.board less (ends_by law now seed n (line ∷ h) m.1 (leads, m.2) its (omega arith)))
-    (nothing_or m.0)
+ends_by law now seed zero h s leads one few = sweeps_on law now seed h s leads one (λ g t l its less. absurd (omega arith))
+ends_by law now seed (suc n) h s leads one few = sweeps_on law now seed h s leads one (λ g t l its less. ends_by law now seed n g t l its (omega arith))
