@@ -19,22 +19,23 @@ or_right false b e = e
 
 stays : (s : State) (board : List BoardRow) (e : Event) → IsWithinLimit s → EachNext s board e (λ _ t. IsWithinLimit t)
 stays s board e within = record {
-  stays = λ _. within;
-  project = λ _ name seed. within;
-  runner = λ _ new seed. within;
-  paused = λ _ runner paused has. within;
-  file = λ _ project text has. within;
-  variables = λ _ vs. within;
-  modes = λ _ new is ms. within;
+  stays = λ _ _. within;
+  project = λ _ _ name seed. within;
+  runner = λ _ _ new seed. within;
+  paused = λ _ _ runner paused has. within;
+  file = λ _ _ project text has. within;
+  variables = λ _ _ vs. within;
+  modes = λ _ _ new is ms. within;
   pipeline = λ new now is project text laid claims rows asked has named file lays fits.
       let first = s.next.job in
       let last = first + length laid.plan.jobs - 1 in
       let long = new_length s.next.pipeline first 0 laid.plan.jobs in
       let below : last ≤ MAX_NUMBER = ltb-false MAX_NUMBER last (or_right (nat_lt MAX_NUMBER s.next.pipeline) (nat_lt MAX_NUMBER last) fits) in
       omega arith;
-  granted = λ _ runner job q variables now seed has_runner has_job pending is_queued free. within;
-  alters = λ _ old seen state traces has live. within;
-  acted = λ _ changes act. within;
+  granted = λ token is runner job q variables now seed found offered has_runner has_job pending is_queued free. within;
+  alters = λ _ _ old seen state has live. within;
+  grown = λ part is old at size has its live. within;
+  acted = λ _ _ changes act. within;
   pruned = λ p before is found. within;
 }
 

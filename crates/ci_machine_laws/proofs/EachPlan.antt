@@ -25,7 +25,9 @@ use Rattle.ci_graph_layout.specs.Prelude.{Config, MAX_VARIABLES, MAX_TAGS, Given
 use Rattle.serde_json.specs.Written.{compact_text}
 use Rattle.ci_machine_steps.specs.Reads.{told}
 use Rattle.ci_machine.proofs.Keyed.{Has, has_filter, has_find, find-map}
+use Rattle.ci_machine_steps.specs.Prelude.{is_live, renewed, size_after}
 use Rattle.ci_machine_laws.proofs.Acts.{IsAct, plays, retries, cancels, cancellable_within}
+use Rattle.ci_machine_laws.proofs.Ends.{renewed_live, leased_live}
 
 -- the codes with which the machine refuses
 abbrev pub IsMachineCode : Code → Type 0
@@ -310,8 +312,8 @@ module _ (P : Plan → Type 0) (of_code : (c : Code) → IsMachineCode c → P (
 pub record Each (s : State) (board : List BoardRow) (request : Request) (P : Plan → Type 0) : Type 0 where
   pub refused : (c : Code) → IsMachineCode c → P (refused c)
   pub faulted : (d : Detail) → P (faulted d)
-  pub project : (name : List ℕ) (seed : Seed) → P (made_project s.next.project name seed)
-  pub runner : (new : NewRunner) (seed : Seed) → P (made_runner s.next.runner new seed)
+  pub project : (name : List ℕ) → request ≡ AddProject name → (seed : Seed) → P (made_project s.next.project name seed)
+  pub runner : (new : NewRunner) → request ≡ AddRunner new → (seed : Seed) → P (made_runner s.next.runner new seed)
   pub paused : (runner : Runner) (paused : Bool) → Has runner s.runners → P (runner_paused runner paused)
   pub file : (project : Project) (text : List ℕ) (c : Config) → Has project s.projects → P (file_set project text c)
   pub variable : (project : Project) (new : NewVariable) → P (variable_set project new)
@@ -322,13 +324,13 @@ pub record Each (s : State) (board : List BoardRow) (request : Request) (P : Pla
   pub pipeline : (new : NewPipeline) (now : ℕ) → request ≡ CreatePipeline new → OfCreation s P new now
   -- there is nothing to run, or nothing to prune
   pub nothing : P nothing_to_run
-  pub granted : (runner : Runner) (job : Job) (q : QueuedJob) (variables : List JobVariable) (now : ℕ) (seed : Seed)
-      → Has runner s.runners → Has job s.jobs → is_pending board job ≡ true → queued s job ≡ q → resource_free (groups_in s board) q ≡ true → P (granted runner q variables s.next.attempt now seed)
+  pub granted : (token : List ℕ) → request ≡ AskJob token → (runner : Runner) (job : Job) (q : QueuedJob) (variables : List JobVariable) (now : ℕ) (seed : Seed)
+      → runner_with s token ≡ Some runner → chosen (queue s board) (groups_in s board) runner ≡ Some q → Has runner s.runners → Has job s.jobs → is_pending board job ≡ true → queued s job ≡ q → resource_free (groups_in s board) q ≡ true → P (granted runner q variables s.next.attempt now seed)
   pub turned_away : (fault : LeaseFault) → P (unleased fault, [])
-  pub heard : (a : Attempt) (seen : ℕ) → Has a s.attempts → P (heard a (Ok seen))
+  pub heard : (a : Attempt) (seen : ℕ) → Has a s.attempts → is_live a ≡ true → P (heard a (Ok seen))
   pub ended : (a : Attempt) (state : AttemptState) → Has a s.attempts → P (ended a (Ok state))
   pub misplaced : (fault : PieceFault) → P (not_accepted fault, [])
-  pub grown : (a : Attempt) (bytes : List ℕ) (now size : ℕ) → Has a s.attempts → P (grown a bytes now size)
+  pub grown : (part : TracePart) → request ≡ AppendTrace part → (a : Attempt) (now size : ℕ) → Has a s.attempts → a.id ≡ part.attempt → is_live a ≡ true → P (grown a part.bytes now size)
   pub pipeline_shown : (p : Pipeline) (claims : List Claim) (jobs : List Job) (facts : List Facts) (rows : List Row) → P (pipeline_shown p claims jobs facts rows)
   pub shown : (claims : List Claim) (project : ℕ) (job : Job) (status : Status) → P (job_shown claims project job status)
   pub traced : (trace : List ℕ) → P (trace_shown trace)
@@ -337,49 +339,48 @@ pub record Each (s : State) (board : List BoardRow) (request : Request) (P : Pla
   pub pruned : (p : Pipeline) (before : ℕ) → request ≡ PruneOne before → prunable_in s board before ≡ Some p → P (pruned_reply p.id, pipeline_goes p (jobs_of s p.id) s.attempts)
 
 module _ (s : State) (board : List BoardRow) (request : Request) (P : Plan → Type 0) (each : Each s board request P) where
-  projects : (name : List ℕ) (seed : Seed) → P (add_project s.next.project name seed)
-  projects name seed =
+  projects : (name : List ℕ) → request ≡ AddProject name → (seed : Seed) → P (add_project s.next.project name seed)
+  projects name asks seed =
       cond_both (not (is_name name)) (faulted (Detail.Code (K 16))) _ P (λ _. each.faulted (Detail.Code (K 16))) (λ _.
-      cond_both (nat_lt MAX_NUMBER s.next.project) (refused M15) (made_project s.next.project name seed) P (λ _. each.refused M15 tt) (λ _. each.project name seed))
+      cond_both (nat_lt MAX_NUMBER s.next.project) (refused M15) (made_project s.next.project name seed) P (λ _. each.refused M15 tt) (λ _. each.project name asks seed))
 
-  runners : (project : Option Project) (new : NewRunner) (seed : Seed) → P (add_runner s.next.runner project new seed)
-  runners project new seed =
+  runners : (project : Option Project) (new : NewRunner) → request ≡ AddRunner new → (seed : Seed) → P (add_runner s.next.runner project new seed)
+  runners project new asks seed =
       cond_both (nat_lt MAX_TAGS (length new.tags)) (faulted (Detail.Code (K 11))) _ P (λ _. each.faulted (Detail.Code (K 11))) (λ _.
       cond_both (not (are_names new)) (faulted (Detail.Code (K 16))) _ P (λ _. each.faulted (Detail.Code (K 16))) (λ _.
       cond_both (lacks_project new.project project) (refused M2) _ P (λ _. each.refused M2 tt) (λ _.
-      cond_both (nat_lt MAX_NUMBER s.next.runner) (refused M15) (made_runner s.next.runner new seed) P (λ _. each.refused M15 tt) (λ _. each.runner new seed))))
+      cond_both (nat_lt MAX_NUMBER s.next.runner) (refused M15) (made_runner s.next.runner new seed) P (λ _. each.refused M15 tt) (λ _. each.runner new asks seed))))
 
   pauses : (n : ℕ) (paused : Bool) (found : Option Runner) → runner_at s n ≡ found → P (pause_runner found paused)
   pauses n paused None is = each.refused M3 tt
   pauses n paused (Some r) is = each.paused r paused (has_find (λ (w : Runner). w.id == n) r s.runners is).0
 
-  offers : (now : ℕ) (seed : Seed) (runner : Runner) → Has runner s.runners → (q : Option QueuedJob) → chosen (queue s board) (groups_in s board) runner ≡ q → (variables : List JobVariable)
+  offers : (token : List ℕ) → request ≡ AskJob token → (now : ℕ) (seed : Seed) (runner : Runner) → runner_with s token ≡ Some runner → (q : Option QueuedJob) → chosen (queue s board) (groups_in s board) runner ≡ q → (variables : List JobVariable)
       → P (ask_job (Some runner) q variables s.next.attempt now seed)
-  offers now seed runner has None offered variables = each.nothing
-  offers now seed runner has (Some q) offered variables =
+  offers token asks now seed runner found None offered variables = each.nothing
+  offers token asks now seed runner found (Some q) offered variables =
       let at = find-map (queued s) (is_eligible runner (groups_in s board)) q (pending_jobs s board) offered in
       let first = has_find (λ (j : Job). is_eligible runner (groups_in s board) (queued s j)) at.0 (pending_jobs s board) at.1.1 in
       let is_job = has_filter (is_pending board) at.0 s.jobs first.0 in
       let both = and_parts (may_run runner (queued s at.0).project at.0.options.tags) (resource_free (groups_in s board) (queued s at.0)) first.1 in
       cond_both (nat_lt MAX_NUMBER s.next.attempt) (refused M15) (granted runner q variables s.next.attempt now seed) P (λ _. each.refused M15 tt)
-      (λ _. each.granted runner at.0 q variables now seed has is_job.0 is_job.1 at.1.0 (subst (λ (w : QueuedJob). resource_free (groups_in s board) w ≡ true) at.1.0 both.1))
+      (λ _. each.granted token asks runner at.0 q variables now seed found offered (has_find (λ (r : Runner). bytes_eq r.token token) runner s.runners found).0 is_job.0 is_job.1 at.1.0 (subst (λ (w : QueuedJob). resource_free (groups_in s board) w ≡ true) at.1.0 both.1))
 
-  asks : (token : List ℕ) (now : ℕ) (seed : Seed) (runner : Option Runner) → runner_with s token ≡ runner
+  asks : (token : List ℕ) → request ≡ AskJob token → (now : ℕ) (seed : Seed) (runner : Option Runner) → runner_with s token ≡ runner
       → P (ask_job runner (offer s board runner) (offered_variables s (offer s board runner)) s.next.attempt now seed)
-  asks token now seed None found = each.refused M4 tt
-  asks token now seed (Some runner) found =
-      offers now seed runner (has_find (λ (r : Runner). bytes_eq r.token token) runner s.runners found).0 (chosen (queue s board) (groups_in s board) runner) refl _
+  asks token is now seed None found = each.refused M4 tt
+  asks token is now seed (Some runner) found = offers token is now seed runner found (chosen (queue s board) (groups_in s board) runner) refl _
 
-  hears : (a : Attempt) → Has a s.attempts → (seen : Result ℕ LeaseFault) → P (heard a seen)
-  hears a has (Ok seen) = each.heard a seen has
-  hears a has (Err fault) = each.turned_away fault
+  hears : (a : Attempt) → Has a s.attempts → (seen : Result ℕ LeaseFault) → ((z : ℕ) → seen ≡ Ok z → is_live a ≡ true) → P (heard a seen)
+  hears a has (Ok seen) live = each.heard a seen has (live seen refl)
+  hears a has (Err fault) live = each.turned_away fault
 
   ends : (a : Attempt) → Has a s.attempts → (state : Result AttemptState LeaseFault) → P (ended a state)
   ends a has (Ok state) = each.ended a state has
   ends a has (Err fault) = each.turned_away fault
 
   reports : (l : Lease) → Has l.attempt s.attempts → (r : Report) (now : ℕ) → P (reported l r now)
-  reports l has Report.Running now = hears l.attempt has _
+  reports l has Report.Running now = hears l.attempt has _ (renewed_live l.attempt l.limit now)
   reports l has (Report.Success exit) now = ends l.attempt has _
   reports l has (Report.Failed cause exit) now = ends l.attempt has _
 
@@ -389,16 +390,19 @@ module _ (s : State) (board : List BoardRow) (request : Request) (P : Plan → T
       let has = has_find (λ (b : Attempt). b.id == update.attempt) a s.attempts found in
       cond_both (bytes_eq a.token update.token) (reported (lease_of s a) update.report now) (refused M5) P (λ _. reports (lease_of s a) has.0 update.report now) (λ _. each.refused M5 tt)
 
-  grows : (a : Attempt) → Has a s.attempts → (bytes : List ℕ) (now : ℕ) (size : Result ℕ PieceFault) → P (appended a bytes now size)
-  grows a has bytes now (Ok size) = each.grown a bytes now size has
-  grows a has bytes now (Err fault) = each.misplaced fault
+  grows : (part : TracePart) → request ≡ AppendTrace part → (a : Attempt) → Has a s.attempts → a.id ≡ part.attempt → (now : ℕ) (size : Result ℕ PieceFault) → ((z : ℕ) → size ≡ Ok z → is_live a ≡ true) → P (appended a part.bytes now size)
+  grows part asks a has its now (Ok size) live = each.grown part asks a now size has its (live size refl)
+  grows part asks a has its now (Err fault) live = each.misplaced fault
 
-  appends : (part : TracePart) (now : ℕ) (a : Option Attempt) → attempt_at s part.attempt ≡ a → P (append_trace (option_map (lease_of s) a) (length (trace_of s part.attempt)) part now)
-  appends part now None found = each.refused M5 tt
-  appends part now (Some a) found =
+  appends : (part : TracePart) → request ≡ AppendTrace part → (now : ℕ) (a : Option Attempt) → attempt_at s part.attempt ≡ a → P (append_trace (option_map (lease_of s) a) (length (trace_of s part.attempt)) part now)
+  appends part asks now None found = each.refused M5 tt
+  appends part asks now (Some a) found =
       let l = lease_of s a in
       let has = has_find (λ (b : Attempt). b.id == part.attempt) a s.attempts found in
-      cond_both (bytes_eq a.token part.token) _ (refused M5) P (λ _. grows a has.0 part.bytes now (accepted a l.limit now (length (trace_of s part.attempt)) part.from (length part.bytes))) (λ _. each.refused M5 tt)
+      let size = length (trace_of s part.attempt) in
+      cond_both (bytes_eq a.token part.token) _ (refused M5) P
+      (λ _. grows part asks a has.0 (eqb-true a.id part.attempt has.1) now (accepted a l.limit now size part.from (length part.bytes)) (leased_live a l.limit now (renewed a l.limit now) refl (size_after size part.from (length part.bytes))))
+      (λ _. each.refused M5 tt)
 
   prunes : (before : ℕ) → request ≡ PruneOne before → (found : Option Pipeline) → prunable_in s board before ≡ found → P (prune found (jobs_in s found) s.attempts)
   prunes before asks None found = each.nothing
@@ -417,8 +421,8 @@ asked Q fine refused (Some project) job pipeline query =
     cond_both (project.id == query.project) (job_within job pipeline project.id) (Err M2) Q (λ _. within Q fine refused job pipeline project.id) (λ _. refused M2 tt)
 
 pub does : (s : State) (board : List BoardRow) (P : Plan → Type 0) (request : Request) → Each s board request P → (now : ℕ) (seed : Seed) (plan : Plan) → Does s board request now seed plan → P plan
-does s board P (AddProject name) each now seed plan is = subst P (sym is) (projects s board (AddProject name) P each name seed)
-does s board P (AddRunner new) each now seed plan is = subst P (sym is) (runners s board (AddRunner new) P each (project_named s new.project) new seed)
+does s board P (AddProject name) each now seed plan is = subst P (sym is) (projects s board (AddProject name) P each name refl seed)
+does s board P (AddRunner new) each now seed plan is = subst P (sym is) (runners s board (AddRunner new) P each (project_named s new.project) new refl seed)
 does s board P (PauseRunner pause) each now seed plan is = subst P (sym is) (pauses s board (PauseRunner pause) P each pause.runner pause.paused (runner_at s pause.runner) refl)
 does s board P (SetFile new) each now seed plan is = of_file s P each.refused each.faulted new plan (λ project c has. each.file project new.text c has) is
 does s board P (SetVariable new) each now seed plan is = subst P (sym is) (of_variable s P each.refused each.faulted new (λ project. each.variable project new))
@@ -432,9 +436,9 @@ does s board P (ShowPipeline query) each now seed plan is =
     let n = query.pipeline in
     let claims = claims_in s board n in
     subst P (sym is) (of_pipeline s P each.refused each.faulted query claims (jobs_of s n) (facts_of s n) (rows_of s board n) (λ p. each.pipeline_shown p claims (jobs_of s n) (facts_of s n) (rows_of s board n)))
-does s board P (AskJob token) each now seed plan is = subst P (sym is) (asks s board (AskJob token) P each token now seed (runner_with s token) refl)
+does s board P (AskJob token) each now seed plan is = subst P (sym is) (asks s board (AskJob token) P each token refl now seed (runner_with s token) refl)
 does s board P (UpdateJob update) each now seed plan is = subst P (sym is) (updates s board (UpdateJob update) P each update now (attempt_at s update.attempt) refl)
-does s board P (AppendTrace part) each now seed plan is = subst P (sym is) (appends s board (AppendTrace part) P each part now (attempt_at s part.attempt) refl)
+does s board P (AppendTrace part) each now seed plan is = subst P (sym is) (appends s board (AppendTrace part) P each part refl now (attempt_at s part.attempt) refl)
 does s board P (ShowJob query) each now seed plan is =
     let job = job_at s query.job in
     let status = status_for board query.job in
@@ -462,8 +466,8 @@ safe : (s : State) (board : List BoardRow) (request : Request) → Each s board 
 safe s board request = record {
   refused = λ c m. (λ _. refl, stepped c m);
   faulted = λ d. (λ _. refl, refl);
-  project = λ name seed. did;
-  runner = λ new seed. did;
+  project = λ name is seed. did;
+  runner = λ new is seed. did;
   paused = λ runner paused has. did;
   file = λ project text c has. did;
   variable = λ project new. did;
@@ -473,12 +477,12 @@ safe s board request = record {
   mode_shown = λ group order. (λ _. refl, refl);
   pipeline = λ new now is project text laid claims rows asked has named file lays fits. did;
   nothing = (λ _. refl, refl);
-  granted = λ runner job q variables now seed h k m e f. did;
+  granted = λ token is runner job q variables now seed found offered h k m e f. did;
   turned_away = λ fault. (λ _. refl, away fault);
-  heard = λ a seen has. did;
+  heard = λ a seen has live. did;
   ended = λ a state has. did;
   misplaced = λ fault. (λ _. refl, misplaces fault);
-  grown = λ a bytes now size has. did;
+  grown = λ part is a now size has its live. did;
   pipeline_shown = λ p claims jobs facts rows. (λ _. refl, refl);
   shown = λ claims project job status. (λ _. refl, refl);
   traced = λ trace. (λ _. refl, refl);

@@ -6,7 +6,7 @@ use Rattle.std.specs.Str.{bytes_eq}
 use Rattle.std.proofs.lemmas.Bool.{cases_Bool, both_ways, false≢true, and_parts}
 use Rattle.std.proofs.lemmas.Slice.Eq.{bytes_eq-Decides}
 use Rattle.ci_machine_steps.specs.Prelude.{BoardRow, Holder, Pipeline, Job, Attempt, QueuedJob, Event}
-use Rattle.ci_machine_steps.specs.Prelude.{State, applied, attempt_cmp, jobs_of, is_live, holds, is_free}
+use Rattle.ci_machine_steps.specs.Prelude.{State, applied, put, attempt_cmp, jobs_of, is_live, holds, is_free}
 use Rattle.ci_machine_steps.specs.Prelude.{held_claim, groups_in}
 use Rattle.ci_machine_steps.specs.Prelude.{is_job_among, without_pipeline, queued_at, group_held, held_by, held_of, holders}
 use Rattle.ci_machine_steps.specs.Prelude.{is_in_group, job_at, pipeline_at, project_or_none, queued, live_attempts, Past}
@@ -103,15 +103,15 @@ there s b k = record { old = b; has = k; id = refl; job = refl; runner = refl; l
 
 comes : (s : State) (board : List BoardRow) (e : Event) → Rising job_id 0 s.jobs → Rising (λ (a : Attempt). a.id) 0 s.attempts → EachNext s board e (λ _ t. Come s t)
 comes s board e jobs_rise rise = record {
-  stays = λ _. same;
-  project = λ _ name seed. same;
-  runner = λ _ new seed. same;
-  paused = λ _ runner paused has. same;
-  file = λ _ project text has. same;
-  variables = λ _ vs. same;
-  modes = λ _ new is ms. same;
+  stays = λ _ _. same;
+  project = λ _ _ name seed. same;
+  runner = λ _ _ new seed. same;
+  paused = λ _ _ runner paused has. same;
+  file = λ _ _ project text has. same;
+  variables = λ _ _ vs. same;
+  modes = λ _ _ new is ms. same;
   pipeline = λ new now is project text laid claims rows asked has named file lays fits. same;
-  granted = λ _ runner job q variables now seed has_runner has_job pending is_queued free b k. ⊎_elim
+  granted = λ token is runner job q variables now seed found offered has_runner has_job pending is_queued free b k. ⊎_elim
       (λ e. inr (record {
         job = job;
         has = has_job;
@@ -121,17 +121,9 @@ comes s board e jobs_rise rise = record {
         id = ap (λ (c : Attempt). c.id) e;
       }))
       (λ m. inl (there s b m)) (has_put attempt_cmp _ b s.attempts k);
-  alters = λ _ old seen state traces has live b k. inl (⊎_elim
-      (λ e. record {
-        old = old;
-        has = has;
-        id = sym (ap (λ (c : Attempt). c.id) e);
-        job = sym (ap (λ (c : Attempt). c.job) e);
-        runner = sym (ap (λ (c : Attempt). c.runner) e);
-        live = λ l. live (sym (ap is_live e) ∙ l);
-      })
-      (there s b) (has_put attempt_cmp _ b s.attempts k));
-  acted = λ _ changes act b k. inl (⊎_elim
+  alters = λ _ _ old seen state has live. altered old _ has live refl refl refl;
+  grown = λ part is old now size has its live. altered old _ has live refl refl refl;
+  acted = λ _ _ changes act b k. inl (⊎_elim
       (there s b)
       (λ w. record {
         old = w.old;
@@ -146,6 +138,18 @@ comes s board e jobs_rise rise = record {
 } where
   same : Come s s
   same b k = inl (there s b k)
+
+  altered : (old x : Attempt) → Has old s.attempts → is_live old ≡ true → x.id ≡ old.id → x.job ≡ old.job → x.runner ≡ old.runner → Come s (record s { attempts = put attempt_cmp x s.attempts })
+  altered old x has live same_id same_job same_runner b k = inl (⊎_elim
+      (λ e. record {
+        old = old;
+        has = has;
+        id = sym (ap (λ (c : Attempt). c.id) e ∙ same_id);
+        job = sym (ap (λ (c : Attempt). c.job) e ∙ same_job);
+        runner = sym (ap (λ (c : Attempt). c.runner) e ∙ same_runner);
+        live = λ _. live;
+      })
+      (there s b) (has_put attempt_cmp x b s.attempts k))
 
 -- ---- every state that a history leads to
 

@@ -28,13 +28,13 @@ From s e now seed a t = (j : Job) → Has j t.jobs → Was s j ⊎ IsMadeBy (lin
 
 are : (s : State) (board : List BoardRow) (e : Event) (now : ℕ) (seed : Seed) → Rising (λ (w : Job). w.id) 0 s.jobs → Rising (λ (a : Attempt). a.id) 0 s.attempts → EachNext s board e (From s e now seed)
 are s board e now seed jobs_rise rise = record {
-  stays = λ _. same;
-  project = λ _ name seed. same;
-  runner = λ _ new seed. same;
-  paused = λ _ runner paused has. same;
-  file = λ _ project text has. same;
-  variables = λ _ vs. same;
-  modes = λ _ new is ms. same;
+  stays = λ _ _. same;
+  project = λ _ _ name seed. same;
+  runner = λ _ _ new seed. same;
+  paused = λ _ _ runner paused has. same;
+  file = λ _ _ project text has. same;
+  variables = λ _ _ vs. same;
+  modes = λ _ _ new is ms. same;
   pipeline = λ new at is project text laid claims rows asked has named file lays fits j k.
       let made = creation s.next.pipeline s.next.job new (given_in s new) at laid in
       let lays = laid_is text (given_in s new) (Ok laid) lays in
@@ -62,9 +62,10 @@ are s board e now seed jobs_rise rise = record {
         fixed = ap job_for_good n.job ∙ ap (λ q. new_job q s.next.job j.position n.as_said) (sym drawn);
       }))
       (has_all job_cmp made.jobs s.jobs j k);
-  granted = λ _ runner job q variables now seed has_runner has_job pending is_queued free. same;
-  alters = λ _ old seen state traces has live. same;
-  acted = λ _ changes act j k. inl (⊎_elim (there s j) (λ m. let w = act.each_job j m in (w.old, (w.has, w.good))) (has_all job_cmp act.jobs s.jobs j k));
+  granted = λ token is runner job q variables now seed found offered has_runner has_job pending is_queued free. same;
+  alters = λ _ _ old seen state has live. same;
+  grown = λ part is old at size has its live. same;
+  acted = λ _ _ changes act j k. inl (⊎_elim (there s j) (λ m. let w = act.each_job j m in (w.old, (w.has, w.good))) (has_all job_cmp act.jobs s.jobs j k));
   pruned = λ p before is found j k. inl (there s j (job_was s p.id jobs_rise rise j k).0);
 } where
   same : {a : Answer} → From s e now seed a s

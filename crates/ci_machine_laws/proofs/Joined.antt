@@ -206,17 +206,18 @@ module _ (needs some : List Need) (had : (w : Need) → Has w some → Has w nee
 
 pub joined_on : (s : State) (board : List BoardRow) (e : Event) → Linked s → Joined s.jobs s.needs → EachNext s board e (λ _ t. Joined t.jobs t.needs)
 joined_on s board e i was = record {
-  stays = λ _. was;
-  project = λ _ name seed. was;
-  runner = λ _ new seed. was;
-  paused = λ _ runner paused has. was;
-  file = λ _ project text has. was;
-  variables = λ _ vs. was;
-  modes = λ _ new is ms. was;
+  stays = λ _ _. was;
+  project = λ _ _ name seed. was;
+  runner = λ _ _ new seed. was;
+  paused = λ _ _ runner paused has. was;
+  file = λ _ _ project text has. was;
+  variables = λ _ _ vs. was;
+  modes = λ _ _ new is ms. was;
   pipeline = λ new now is project text laid claims rows asked has named file lays fits. enters s new (given_in s new) now text laid i was lays;
-  granted = λ _ runner job q variables now seed has_runner has_job pending is_queued free. was;
-  alters = λ _ old seen state traces has live. was;
-  acted = λ _ changes act. acts s changes act was;
+  granted = λ token is runner job q variables now seed found offered has_runner has_job pending is_queued free. was;
+  alters = λ _ _ old seen state has live. was;
+  grown = λ part is old at size has its live. was;
+  acted = λ _ _ changes act. acts s changes act was;
   pruned = λ p before is found. leaves s.needs _ (λ w k. (has_filter _ w s.needs k).0) s.jobs _ (λ j k. (has_filter _ j s.jobs k).0) was;
 }
 

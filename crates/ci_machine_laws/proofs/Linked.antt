@@ -386,15 +386,15 @@ Follows s e a t = Next s t ⊎ IsPruned s e a t
 
 goes : (s : State) (board : List BoardRow) (e : Event) → Linked s → Rising (λ (j : Job). j.id) 0 s.jobs → Rising (λ (a : Attempt). a.id) 0 s.attempts → Below (λ (a : Attempt). a.id) s.next.attempt s.attempts → EachNext s board e (Follows s e)
 goes s board e i jr r b = record {
-  stays = λ _. inl rests;
-  project = λ _ name seed. inl (with_projects s i _ _ (new_in (λ (p : Project). p.id) project_for_good _ s.projects i.projects_rise i.project_below));
-  runner = λ _ new seed. inl (with_runners s i _ _ (new_in (λ (q : Runner). q.id) runner_for_good _ s.runners i.runners_rise i.runner_below));
-  paused = λ _ runner paused has. inl (with_runners s i _ _ (put_in (λ (q : Runner). q.id) runner_for_good _ runner s.runners s.next.runner i.runners_rise i.runner_below has refl refl));
-  file = λ _ project text has. inl (with_projects s i _ _ (put_in (λ (p : Project). p.id) project_for_good _ project s.projects s.next.project i.projects_rise i.project_below has refl refl));
-  variables = λ _ vs. inl rests;
-  modes = λ _ new is ms. inl rests;
+  stays = λ _ _. inl rests;
+  project = λ _ _ name seed. inl (with_projects s i _ _ (new_in (λ (p : Project). p.id) project_for_good _ s.projects i.projects_rise i.project_below));
+  runner = λ _ _ new seed. inl (with_runners s i _ _ (new_in (λ (q : Runner). q.id) runner_for_good _ s.runners i.runners_rise i.runner_below));
+  paused = λ _ _ runner paused has. inl (with_runners s i _ _ (put_in (λ (q : Runner). q.id) runner_for_good _ runner s.runners s.next.runner i.runners_rise i.runner_below has refl refl));
+  file = λ _ _ project text has. inl (with_projects s i _ _ (put_in (λ (p : Project). p.id) project_for_good _ project s.projects s.next.project i.projects_rise i.project_below has refl refl));
+  variables = λ _ _ vs. inl rests;
+  modes = λ _ _ new is ms. inl rests;
   pipeline = λ new now is project text laid claims rows asked has named file lays fits. inl (enters s new project (given_in s new) now text laid i has named lays);
-  granted = λ _ runner job q variables now seed has_runner has_job pending is_queued free.
+  granted = λ token is runner job q variables now seed found offered has_runner has_job pending is_queued free.
       let its_job : job.id ≡ q.job.id = ap (λ (w : QueuedJob). w.job.id) is_queued in
       inl (with_attempts s i _ _ (record {
         stay = kept_new (λ (w : Attempt). w.id) attempt_for_good _ s.next.attempt s.attempts b (omega arith);
@@ -403,8 +403,9 @@ goes s board e i jr r b = record {
             (λ m. inl m) (has_put attempt_cmp _ a s.attempts k);
         counts = λ n. passing_new (λ (w : Attempt). w.id) (λ (w : Attempt). w.job == n) _ s.next.attempt s.attempts b (omega arith);
       }));
-  alters = λ _ old seen state traces has live. inl (with_attempts s i _ s.next.attempt (put_attempt s _ old i r has refl));
-  acted = λ _ changes act. inl (acts s changes act i jr r);
+  alters = λ _ _ old seen state has live. inl (with_attempts s i _ s.next.attempt (put_attempt s _ old i r has refl));
+  grown = λ part is old now size has its live. inl (with_attempts s i _ s.next.attempt (put_attempt s _ old i r has refl));
+  acted = λ _ _ changes act. inl (acts s changes act i jr r);
   pruned = λ p before is found. inr (record { pipeline = p; has = (has_find (is_prunable s board before) p s.pipelines found).0; before = before; asked = is; answered = refl; state = refl });
 } where
   rests : Next s s

@@ -132,17 +132,18 @@ sets_mode s t new now seed (Answer.Swept swept) step fine = absurd step.happens
 
 keeps : (s : State) (board : List BoardRow) (e : Event) → ((new : NewMode) → e ≡ Event.Request (SetMode new) → ⊥) → EachNext s board e (λ _ t. t.modes ≡ s.modes)
 keeps s board e other = record {
-  stays = λ _. refl;
-  project = λ _ name seed. refl;
-  runner = λ _ new seed. refl;
-  paused = λ _ runner paused has. refl;
-  file = λ _ project text has. refl;
-  variables = λ _ vs. refl;
-  modes = λ _ new is ms. absurd (other new is);
+  stays = λ _ _. refl;
+  project = λ _ _ name seed. refl;
+  runner = λ _ _ new seed. refl;
+  paused = λ _ _ runner paused has. refl;
+  file = λ _ _ project text has. refl;
+  variables = λ _ _ vs. refl;
+  modes = λ _ _ new is ms. absurd (other new is);
   pipeline = λ new now is project text laid claims rows asked has named file lays fits. refl;
-  granted = λ _ runner job q variables now seed has_runner has_job pending is_queued free. refl;
-  alters = λ _ old seen state traces has live. refl;
-  acted = λ _ changes act. refl;
+  granted = λ token is runner job q variables now seed found offered has_runner has_job pending is_queued free. refl;
+  alters = λ _ _ old seen state has live. refl;
+  grown = λ part is old at size has its live. refl;
+  acted = λ _ _ changes act. refl;
   pruned = λ p before is found. refl;
 }
 
