@@ -120,5 +120,4 @@ module _ (s : State) (board : List BoardRow) (jobs_rise : Rising (λ (j : Job). 
   next_is Event.Sweep now seed (Answer.Swept out) changes next is =
       let P : Swept × List RowChange → Type 0 = λ f. Q (Answer.Swept f.0) (applied f.1 s) in
       subst P (sym is) (swept now next (first_due (leases s) now) refl (redundant_in s board))
-  next_is (Event.Request request) now seed (Answer.Swept out) changes next is = absurd is
-  next_is Event.Sweep now seed (Answer.Reply reply) changes next is = absurd is
+  next_is e now seed a changes next is = absurd is

@@ -509,17 +509,15 @@ safe s board request = record {
 
 -- a sweep that ends and cancels nothing changes nothing, and it refuses nothing
 swept_safe : (due : Option Lease) (redundant : Option Pipeline) (attempts : List Attempt) (jobs : List Job) → let does = sweep due redundant attempts jobs in IsSafe (Answer.Swept does.0, does.1)
-swept_safe (Some l) redundant attempts jobs = (λ refused. absurd refused, refl)
-swept_safe None (Some p) attempts jobs = (λ refused. absurd refused, refl)
 swept_safe None None attempts jobs = (λ _. refl, refl)
+swept_safe due redundant attempts jobs = (λ refused. absurd refused, refl)
 
 all_safe : (s : State) (board : List BoardRow) (e : Event) (now : ℕ) (seed : Seed) (a : Answer) (changes : List RowChange) → Happens s board e now seed a changes → IsSafe (a, changes)
 all_safe s board (Event.Request request) now seed (Answer.Reply reply) changes is = does s board IsSafePlan request (safe s board request) now seed (reply, changes) is
 all_safe s board Event.Sweep now seed (Answer.Swept swept) changes is =
     let P : Swept × List RowChange → Type 0 = λ does. IsSafe (Answer.Swept does.0, does.1) in
     subst P (sym is) (swept_safe (first_due (leases s) now) (redundant_in s board) s.attempts (cancellable_in s board (redundant_in s board)))
-all_safe s board (Event.Request request) now seed (Answer.Swept swept) changes is = absurd is
-all_safe s board Event.Sweep now seed (Answer.Reply reply) changes is = absurd is
+all_safe s board e now seed a changes is = absurd is
 
 pub unchanged : (s t : State) (e : Event) (now : ℕ) (seed : Seed) (a : Answer) → Step s e now seed a t → IsRefusal a → t ≡ s
 unchanged s t e now seed a step refused = step.state ∙ ap (λ cs. applied cs s) ((all_safe s step.before e now seed a step.changes step.happens).0 refused)

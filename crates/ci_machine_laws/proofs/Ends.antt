@@ -1,9 +1,8 @@
 -- What has ended stays as it ended or went with its pipeline, and then for good, in every state that a history leads to.
 use Rattle.std.proofs.Common.{◌≡◌, ◌⊎◌, ℕ, ◌<◌, ◌≤◌, Bool, true, false, List, ◌∷◌, Result, Ok, Err, refl, sym, ap, subst, ◌∙◌, inl, inr, ⊎_elim, arith}
 use Rattle.std.proofs.lemmas.Bool.{both_ways}
-use Rattle.ci_machine_steps.specs.Prelude.{Attempt, AttemptState, Live, Succeeded, Cancelled, is_live_state, LeaseFault, PieceFault, is_live, while_leased, renewed, if_leased}
+use Rattle.ci_machine_steps.specs.Prelude.{Attempt, AttemptState, Live, is_live_state, LeaseFault, PieceFault, is_live, while_leased, renewed, if_leased}
 use Rattle.ci_machine_steps.specs.Prelude.{State, attempt_cmp, put, Past, WentWithItsJob}
-use Rattle.ci_machine.specs.Prelude.{Failed}
 use Rattle.ci_machine.proofs.Keyed.{Has, put_has, unequal}
 use Rattle.ci_machine_laws.proofs.Gone.{still_gone}
 use Rattle.ci_machine_laws.proofs.Traces.{Was, IsNew, same}
@@ -56,11 +55,9 @@ puts h s t p x b i known e live =
 
 -- ---- what is accepted of a runner is of a live attempt
 
-while_live : {A : Type 0} (state : AttemptState) (over : Bool) (x y : A) → while_leased state over x ≡ Ok y → is_live_state state ≡ true
+pub while_live : {A : Type 0} (state : AttemptState) (over : Bool) (x y : A) → while_leased state over x ≡ Ok y → is_live_state state ≡ true
 while_live Live over x y e = refl
-while_live (Succeeded exit) over x y e = absurd (cc)
-while_live (Failed cause exit) over x y e = absurd (cc)
-while_live Cancelled over x y e = absurd (cc)
+while_live state over x y e = absurd (cc)
 
 pub renewed_live : (a : Attempt) (limit now z : ℕ) → renewed a limit now ≡ Ok z → is_live a ≡ true
 renewed_live a limit now z e = while_live a.state _ _ z e

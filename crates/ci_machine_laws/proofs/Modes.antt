@@ -1,6 +1,6 @@
 -- A request that sets the process mode of a resource group changes that of no other group, and nothing else; and no other event changes one.
-use Rattle.std.proofs.Common.{◌≡◌, ℕ, Bool, true, false, cond, ◌==◌, ◌&&◌, not, List, [], ◌∷◌, filter, find, Option, Some, None, option_map, Result, Ok, Err, Ordering, Less, Equal}
-use Rattle.std.proofs.Common.{Greater, nat_cmp, is_eq, is_lt, refl, sym, ap, subst, ◌∙◌, inl, inr, ⊎_elim, eqb-true, eq-eqb}
+use Rattle.std.proofs.Common.{◌≡◌, ℕ, Bool, true, false, cond, ◌==◌, ◌&&◌, not, List, [], ◌∷◌, filter, find, Option, Some, None, option_map, Result, Ok, Err, Ordering, Equal}
+use Rattle.std.proofs.Common.{nat_cmp, is_eq, is_lt, refl, sym, ap, subst, ◌∙◌, inl, inr, ⊎_elim, eqb-true, eq-eqb}
 use Rattle.std.specs.Str.{bytes_eq}
 use Rattle.std.specs.Ordering.{ordering_then}
 use Rattle.std.specs.Cmp.Lexicographic.{slice_cmp}
@@ -22,9 +22,8 @@ use Rattle.ci_machine_laws.proofs.Reached.{reached}
 -- ---- keys
 
 then_equal : (o r : Ordering) → is_eq (ordering_then o r) ≡ (is_eq o && is_eq r)
-then_equal Less r = refl
 then_equal Equal r = refl
-then_equal Greater r = refl
+then_equal o r = refl
 
 compared : (a b : ℕ) → is_eq (nat_cmp a b) ≡ (a == b)
 compared a b =

@@ -125,12 +125,7 @@ module _ (s : State) (board : List BoardRow) (rise : Rising (λ (j : Job). j.id)
   by_status project group pipeline other k Status.Pending is e =
       let w = in_wait (queued s other).project other.pipeline true other.options.resource_group (order_of s.modes project group) pipeline project group e in
       first_in project group pipeline other (has_group other k project group w.0 w.1) (order_of s.modes project group) refl true (inr is) (λ t. is) w.2
-  by_status project group pipeline other k Status.Running is e = absurd (false≢true e)
-  by_status project group pipeline other k Status.Success is e = absurd (false≢true e)
-  by_status project group pipeline other k Status.Failed is e = absurd (false≢true e)
-  by_status project group pipeline other k Status.Canceled is e = absurd (false≢true e)
-  by_status project group pipeline other k Status.Skipped is e = absurd (false≢true e)
-  by_status project group pipeline other k Status.Manual is e = absurd (false≢true e)
+  by_status project group pipeline other k st is e = absurd (false≢true e)
 
   abbrev line_of : Job → List WaitingJob
   line_of j = waits_as (queued s j) (status_for board j.id)

@@ -3,8 +3,8 @@ use Rattle.std.proofs.Common.{◌≡◌, ◌<◌, ◌≤◌, true, List, [], ◌
 use Rattle.std.specs.List.{AllByRecursion}
 use Rattle.std.specs.List.Sorted.{IsStrictlySortedBy}
 use Rattle.std.specs.Cmp.{IsTotalOrder}
-use Rattle.std.proofs.lemmas.Cmp.{nat_cmp_total, on_total, then_total}
-use Rattle.ci_machine_steps.specs.Prelude.{Pipeline, Job, Need, Attempt, RowChange, Put, Append, Remove, Record, Key, State, need_cmp, with_record, without_record, changed}
+use Rattle.std.proofs.lemmas.Cmp.{nat_cmp_total, on_total, then_total, nat_list_cmp_total}
+use Rattle.ci_machine_steps.specs.Prelude.{Pipeline, Job, Need, Attempt, RowChange, Put, Append, Remove, Record, Key, State, need_cmp, GroupMode, mode_cmp, with_record, without_record, changed}
 use Rattle.ci_machine_steps.specs.Prelude.{applied, attempts_of, is_live, last_attempt, Past, Leads, IsReached, IsSound}
 use Rattle.ci_machine.proofs.Keyed.{Has, All-from_has}
 use Rattle.ci_machine_laws.proofs.Grants.{live_last}
@@ -13,49 +13,37 @@ use Rattle.ci_machine_laws.proofs.Held.{held, is_linked}
 use Rattle.ci_machine_steps.proofs.Sound.{ascend_from_rising}
 use Rattle.ci_machine_steps.proofs.Variables.{Ordered, filter_ordered, put_ordered}
 
--- ---- the pairs of graphs stand in their order, whatever changes
+-- ---- needs and modes stand in their order, whatever changes
 
 need_total : IsTotalOrder need_cmp
 need_total = then_total (on_total (λ (w : Need). w.job) nat_cmp_total) (on_total (λ (w : Need). w.pred) nat_cmp_total)
 
-recorded : (r : Record) (s : State) → Ordered need_cmp s.needs → Ordered need_cmp (with_record r s).needs
-recorded (Record.Project p) s o = o
-recorded (Record.Variable v) s o = o
-recorded (Record.Runner p) s o = o
-recorded (Record.Pipeline p) s o = o
-recorded (Record.Job p) s o = o
-recorded (Record.JobVariable v) s o = o
-recorded (Record.Need w) s o = put_ordered need_cmp need_total w s.needs o
-recorded (Record.Attempt p) s o = o
-recorded (Record.Mode m) s o = o
-recorded (Record.Next c n) s o = o
+mode_total : IsTotalOrder mode_cmp
+mode_total = then_total (on_total (λ (m : GroupMode). m.project) nat_cmp_total) (on_total (λ (m : GroupMode). m.group) nat_list_cmp_total)
 
-removed : (k : Key) (s : State) → Ordered need_cmp s.needs → Ordered need_cmp (without_record k s).needs
-removed (Key.Project n) s o = o
-removed (Key.Variable n name) s o = o
-removed (Key.Runner n) s o = o
-removed (Key.Pipeline n) s o = o
-removed (Key.Job n) s o = o
-removed (Key.JobVariable n name) s o = o
-removed (Key.JobVariables n) s o = o
-removed (Key.Need n pred) s o = filter_ordered need_cmp _ s.needs o
-removed (Key.Needs n) s o = filter_ordered need_cmp _ s.needs o
-removed (Key.Attempt n) s o = o
-removed (Key.Mode n name) s o = o
-removed (Key.Trace n) s o = o
+abbrev InOrder : State → Type 0
+InOrder s = Ordered need_cmp s.needs × Ordered mode_cmp s.modes
 
-one_change : (c : RowChange) (s : State) → Ordered need_cmp s.needs → Ordered need_cmp (changed c s).needs
-one_change (Put r) s o = recorded r s o
-one_change (Append t) s o = o
-one_change (Remove k) s o = removed k s o
+recorded : (r : Record) (s : State) → InOrder s → InOrder (with_record r s)
+recorded (Record.Need w) s o = (put_ordered need_cmp need_total w s.needs o.0, o.1)
+recorded (Record.Mode m) s o = (o.0, put_ordered mode_cmp mode_total m s.modes o.1)
+recorded r s o = o
 
-changes : (cs : List RowChange) (s : State) → Ordered need_cmp s.needs → Ordered need_cmp (applied cs s).needs
+removed : (k : Key) (s : State) → InOrder s → InOrder (without_record k s)
+removed (Key.Need n pred) s o = (filter_ordered need_cmp _ s.needs o.0, o.1)
+removed (Key.Needs n) s o = (filter_ordered need_cmp _ s.needs o.0, o.1)
+removed (Key.Mode n name) s o = (o.0, filter_ordered mode_cmp _ s.modes o.1)
+removed k s o = o
+
+changes : (cs : List RowChange) (s : State) → InOrder s → InOrder (applied cs s)
 changes [] s o = o
-changes (c ∷ cs) s o = changes cs (changed c s) (one_change c s o)
+changes (Put r ∷ cs) s o = changes cs (changed (Put r) s) (recorded r s o)
+changes (Append t ∷ cs) s o = changes cs (changed (Append t) s) o
+changes (Remove k ∷ cs) s o = changes cs (changed (Remove k) s) (removed k s o)
 
-needs : (h : List Past) (s : State) → Leads h s → Ordered need_cmp s.needs
-needs [] s l = subst (λ (w : State). Ordered need_cmp w.needs) (sym l) tt
-needs (p ∷ h) s l = subst (λ (w : State). Ordered need_cmp w.needs) (sym l.1.state) (changes l.1.changes p.before (needs h p.before l.0))
+pub in_order : (h : List Past) (s : State) → Leads h s → InOrder s
+in_order [] s l = subst InOrder (sym l) (tt, tt)
+in_order (p ∷ h) s l = subst InOrder (sym l.1.state) (changes l.1.changes p.before (in_order h p.before l.0))
 
 all_less : {A : Type 0} (cmp : A → A → Ordering) (x : A) (xs : List A) → ((y : A) → Has y xs → cmp x y ≡ Less) → AllByRecursion (λ y. cmp x y ≡ Less) xs
 all_less cmp x [] h = tt
@@ -77,7 +65,7 @@ sound_reached s is =
       pipelines_ascend = ascend_from_rising (λ (p : Pipeline). p.id) 0 s.pipelines linked.pipelines_rise;
       jobs_ascend = ascend_from_rising (λ (j : Job). j.id) 0 s.jobs grants.jobs_rise;
       attempts_ascend = ascend_from_rising (λ (a : Attempt). a.id) 0 s.attempts grants.rise;
-      needs_ascend = ascend need_cmp s.needs (needs h s is.1);
+      needs_ascend = ascend need_cmp s.needs (in_order h s is.1).0;
       pipelines_below = All-from_has (λ (p : Pipeline). p.id < s.next.pipeline) s.pipelines linked.pipeline_below;
       jobs_positive = All-from_has (λ (j : Job). 0 < j.id) s.jobs (λ j k. let l = linked.positive j k in omega arith);
       jobs_below = All-from_has (λ (j : Job). j.id < s.next.job) s.jobs linked.job_below;

@@ -2,9 +2,9 @@
 use Rattle.std.proofs.Common.{◌≡◌, ◌⊎◌, ℕ, Bool, true, false, not, nat_lt, ◌==◌, List, [], ◌∷◌, length, Option, Some, None, option_and_then, Result, Ok, Err, refl, sym, ap, subst}
 use Rattle.std.proofs.Common.{◌∙◌, inl, inr, ⊎_elim}
 use Rattle.std.proofs.lemmas.Bool.{cond_both}
-use Rattle.ci_machine_steps.specs.Prelude.{BoardRow, Job, Pipeline, RowChange, Event, Request, AddProject, AddRunner, PauseRunner, SetFile, SetVariable, DeleteVariable, SetMode}
-use Rattle.ci_machine_steps.specs.Prelude.{ShowMode, CreatePipeline, ShowPipeline, AskJob, UpdateJob, AppendTrace, ShowJob, ShowTrace, Read, Play, CancelJob, CancelPipeline}
-use Rattle.ci_machine_steps.specs.Prelude.{RetryJob, PruneOne, Seed, Answer, Code, M2, M10, M11, M12, Swept, State, applied, jobs_of, attempts_of, facts_of, rows_of, status_for}
+use Rattle.ci_machine_steps.specs.Prelude.{BoardRow, Job, Pipeline, RowChange, Event, Request, SetFile}
+use Rattle.ci_machine_steps.specs.Prelude.{CreatePipeline, Play, CancelJob, CancelPipeline}
+use Rattle.ci_machine_steps.specs.Prelude.{RetryJob, Seed, Answer, Code, M2, M10, M11, M12, Swept, State, applied, jobs_of, attempts_of, facts_of, rows_of, status_for}
 use Rattle.ci_machine_steps.specs.Prelude.{AreBoard, claims_in, queued, Plan, faulted, asked_project, set_file, SetsFile, have_names, file_or_none, file_for, may_create, given_by}
 use Rattle.ci_machine_steps.specs.Prelude.{Layout, lacks_numbers, creation, creation_changes, pipeline_created, MakesUnless, Makes, Creates, is_name, Project, NewPipeline, Detail}
 use Rattle.ci_machine_steps.specs.Prelude.{K, permitted, ActsOn, is_cancellable, cancellable_jobs, cancel, CancelsSome, CancelsPipeline, is_playable, play, is_retryable, retry}
@@ -117,32 +117,18 @@ module _ (known : Readings) (s : State) (f g : Plan) (once : BoardOnce (applied 
       ⊎_elim (λ a. inl (one f a)) (λ b. inr (one g b)) w.1
 
   does_once : (board : List BoardRow) (r : Request) (now : ℕ) (seed : Seed) → Does s board r now seed f → Does s board r now seed g → (f ≡ g) ⊎ (Refuses r f ⊎ Refuses r g)
-  does_once board (AddProject name) now seed p q = inl (p ∙ sym q)
-  does_once board (AddRunner new) now seed p q = inl (p ∙ sym q)
-  does_once board (PauseRunner pause) now seed p q = inl (p ∙ sym q)
   does_once board (SetFile new) now seed p q =
       ⊎_elim (λ same. inl same) (λ w. inr (refuses (SetFile new) new.text refl w)) (sets_once (asked_project (project_with s new.token) new.project) new.text p q)
-  does_once board (SetVariable new) now seed p q = inl (p ∙ sym q)
-  does_once board (DeleteVariable query) now seed p q = inl (p ∙ sym q)
-  does_once board (SetMode new) now seed p q = inl (p ∙ sym q)
-  does_once board (ShowMode query) now seed p q = inl (p ∙ sym q)
   does_once board (CreatePipeline new) now seed p q =
       let asked = asked_project (project_with s new.token) new.project in
       ⊎_elim (λ same. inl same)
       (λ w. inr (refuses (CreatePipeline new) w.0 (file_asked (project_with s new.token) new.project new w.0 asked refl w.1) w.2))
       (creates_once new (given_by new (project_variables s new.project)) now (may_create asked new) p q)
-  does_once board (ShowPipeline query) now seed p q = inl (p ∙ sym q)
-  does_once board (AskJob token) now seed p q = inl (p ∙ sym q)
-  does_once board (UpdateJob update) now seed p q = inl (p ∙ sym q)
-  does_once board (AppendTrace part) now seed p q = inl (p ∙ sym q)
-  does_once board (ShowJob query) now seed p q = inl (p ∙ sym q)
-  does_once board (ShowTrace query) now seed p q = inl (p ∙ sym q)
-  does_once board (Read query) now seed p q = inl (p ∙ sym q)
   does_once board (Play query) now seed p q = inl (acts_once play (permitted board is_playable M10 (found_job s query)) p q)
   does_once board (CancelJob query) now seed p q = inl (acts_once (λ j. cancel s.attempts (j ∷ [])) (permitted board is_cancellable M12 (found_job s query)) p q)
   does_once board (RetryJob query) now seed p q = inl (acts_once (λ j. retry (attempts_of s j.id) j) (permitted board is_retryable M11 (found_job s query)) p q)
   does_once board (CancelPipeline query) now seed p q = inl (cancels_once board (found_pipeline s query) p q)
-  does_once board (PruneOne before) now seed p q = inl (p ∙ sym q)
+  does_once board r now seed p q = inl (p ∙ sym q)
 
 -- ---- one step
 

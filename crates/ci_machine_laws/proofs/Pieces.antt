@@ -4,7 +4,7 @@ use Rattle.std.proofs.Common.{eqb-true, leb-true}
 use Rattle.std.specs.Str.{bytes_eq}
 use Rattle.std.proofs.lemmas.Bool.{cond_both, false≢true}
 use Rattle.std.proofs.lemmas.List.{length-append}
-use Rattle.ci_machine_steps.specs.Prelude.{Attempt, Trace, LeaseFault, NotLive, LeaseOver, PieceFault, Unleased, WrongOffset, TraceFull, MAX_TRACE_BYTES, TracePart, Event}
+use Rattle.ci_machine_steps.specs.Prelude.{Attempt, Trace, LeaseFault, NotLive, PieceFault, Unleased, WrongOffset, TraceFull, MAX_TRACE_BYTES, TracePart, Event}
 use Rattle.ci_machine_steps.specs.Prelude.{AppendTrace, Seed, Answer, Accepted, M5, Reply, State, applied, renewed, size_after, if_leased, accepted, Plan, refused, appended}
 use Rattle.ci_machine_steps.specs.Prelude.{append_trace, Step, attempt_at, lease_of, trace_of, is_accepted}
 use Rattle.ci_machine.proofs.Keyed.{has_find}
@@ -51,9 +51,7 @@ appends s part now a its (Ok size) fit is =
       others = λ n d. other_trace new n s.traces (λ e. d (sym e ∙ its));
     }
 appends s part now a its (Err (Unleased (NotLive state))) fit is = absurd (false≢true is)
-appends s part now a its (Err (Unleased LeaseOver)) fit is = absurd (false≢true is)
-appends s part now a its (Err (WrongOffset size)) fit is = absurd (false≢true is)
-appends s part now a its (Err TraceFull) fit is = absurd (false≢true is)
+appends s part now a its r fit is = absurd (false≢true is)
 
 parts : (s : State) (part : TracePart) (now : ℕ) (o : Option Attempt) → attempt_at s part.attempt ≡ o → Goes s part (append_trace (option_map (lease_of s) o) (length (trace_of s part.attempt)) part now)
 parts s part now None found = λ is. absurd (false≢true is)

@@ -1,8 +1,7 @@
 -- Which pipeline a request to prune prunes, in a state whose pipelines stand in the order of their numbers.
 use Rattle.std.proofs.Common.{◌≡◌, ◌<◌, ◌≤◌, ℕ, true, false, ◌&&◌, not, nat_lt, List, Option, Some, None, refl, sym, ap, subst, ◌∙◌, inl, inr, ⊎_elim, ltb-true, lt-ltb}
 use Rattle.std.proofs.lemmas.Bool.{and_parts, both_ways, cases_Bool}
-use Rattle.ci_machine_steps.specs.Prelude.{BoardRow, Pipeline, RowChange, AddProject, AddRunner, PauseRunner, SetFile, SetVariable, DeleteVariable, SetMode, ShowMode}
-use Rattle.ci_machine_steps.specs.Prelude.{CreatePipeline, ShowPipeline, AskJob, UpdateJob, AppendTrace, ShowJob, ShowTrace, Read, Play, CancelJob, CancelPipeline, RetryJob}
+use Rattle.ci_machine_steps.specs.Prelude.{BoardRow, Pipeline, RowChange}
 use Rattle.ci_machine_steps.specs.Prelude.{PruneOne, Event, Seed, Answer, State, AreBoard, is_open_in, Plan, is_prunable, prunable_in, prune, Happens, jobs_in, IsLeastPrunable}
 use Rattle.ci_machine_steps.specs.Prelude.{NoneIsPrunable, IsPrunedBy}
 use Rattle.ci_machine.proofs.Keyed.{not_true, Rising, has_find, least_find, All-from_has, contains_from_has}
@@ -51,24 +50,4 @@ pub pruned_by : (s : State) (board : List BoardRow) (e : Event) (now : ℕ) (see
 pruned_by s board (Event.Request (PruneOne before)) now seed (Answer.Reply reply) changes are rise is =
     subst (Fits s board before are) (sym is) (fits s board before are rise (prunable_in s board before) refl)
 pruned_by s board (Event.Request (PruneOne before)) now seed (Answer.Swept swept) changes are rise is = absurd is
-pruned_by s board Event.Sweep now seed a changes are rise is = tt
-pruned_by s board (Event.Request (AddProject x)) now seed a changes are rise is = tt
-pruned_by s board (Event.Request (AddRunner x)) now seed a changes are rise is = tt
-pruned_by s board (Event.Request (PauseRunner x)) now seed a changes are rise is = tt
-pruned_by s board (Event.Request (SetFile x)) now seed a changes are rise is = tt
-pruned_by s board (Event.Request (SetVariable x)) now seed a changes are rise is = tt
-pruned_by s board (Event.Request (DeleteVariable x)) now seed a changes are rise is = tt
-pruned_by s board (Event.Request (SetMode x)) now seed a changes are rise is = tt
-pruned_by s board (Event.Request (ShowMode x)) now seed a changes are rise is = tt
-pruned_by s board (Event.Request (CreatePipeline x)) now seed a changes are rise is = tt
-pruned_by s board (Event.Request (ShowPipeline x)) now seed a changes are rise is = tt
-pruned_by s board (Event.Request (AskJob x)) now seed a changes are rise is = tt
-pruned_by s board (Event.Request (UpdateJob x)) now seed a changes are rise is = tt
-pruned_by s board (Event.Request (AppendTrace x)) now seed a changes are rise is = tt
-pruned_by s board (Event.Request (ShowJob x)) now seed a changes are rise is = tt
-pruned_by s board (Event.Request (ShowTrace x)) now seed a changes are rise is = tt
-pruned_by s board (Event.Request (Read x)) now seed a changes are rise is = tt
-pruned_by s board (Event.Request (Play x)) now seed a changes are rise is = tt
-pruned_by s board (Event.Request (CancelJob x)) now seed a changes are rise is = tt
-pruned_by s board (Event.Request (CancelPipeline x)) now seed a changes are rise is = tt
-pruned_by s board (Event.Request (RetryJob x)) now seed a changes are rise is = tt
+pruned_by s board e now seed a changes are rise is = tt

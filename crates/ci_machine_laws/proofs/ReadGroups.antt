@@ -6,15 +6,15 @@ use Rattle.std.specs.List.Sorted.{IsStrictlySortedBy}
 use Rattle.std.specs.Str.{bytes_eq}
 use Rattle.std.specs.Ordering.{ordering_then}
 use Rattle.std.specs.Cmp.Lexicographic.{slice_cmp}
-use Rattle.std.specs.Cmp.{IsTotalOrder, Equal-is}
+use Rattle.std.specs.Cmp.{Equal-is}
 use Rattle.std.proofs.lemmas.Bool.{cond_both, cases_Bool, both_ways, and_parts}
-use Rattle.std.proofs.lemmas.Cmp.{nat_cmp_total, on_total, then_total, nat_list_cmp_total}
+use Rattle.std.proofs.lemmas.Cmp.{nat_list_cmp_total}
 use Rattle.std.proofs.lemmas.Map.Text.{is_eq-slice_cmp}
 use Rattle.std.proofs.lemmas.Slice.Eq.{bytes_eq-Decides}
-use Rattle.ci_machine_steps.specs.Prelude.{Project, Attempt, BoardRow, GroupMode, Holder, QueuedJob, RowChange, Put, Append, Remove, Record, Key, Event, Read, ReadQuery, Subject}
-use Rattle.ci_machine_steps.specs.Prelude.{Seed, Code, Reply, Answer, State, mode_cmp, placed, put, with_record, without_record, changed, applied, attempt_at, live_attempts}
-use Rattle.ci_machine_steps.specs.Prelude.{is_live, holds, group_held, held_by, held_of, queued_at, holders, holders_in, modes_in, Plan, with_names, group_names, read, Step, Past}
-use Rattle.ci_machine_steps.specs.Prelude.{Leads, IsReached}
+use Rattle.ci_machine_steps.specs.Prelude.{Project, Attempt, BoardRow, GroupMode, Holder, QueuedJob, Event, Read, ReadQuery, Subject}
+use Rattle.ci_machine_steps.specs.Prelude.{Seed, Code, Reply, Answer, State, mode_cmp, placed, put, attempt_at, live_attempts}
+use Rattle.ci_machine_steps.specs.Prelude.{is_live, holds, group_held, held_by, held_of, queued_at, holders, holders_in, modes_in, Plan, with_names, group_names, read, Step}
+use Rattle.ci_machine_steps.specs.Prelude.{IsReached}
 use Rattle.ci_machine.proofs.Keyed.{Has, Rising, has_put, put_has, has_filter, filter_has, has_map, map_has, has_find, find_has, All-from_has, contains_from_has, has_from_contains, equal}
 use Rattle.ci_machine.proofs.Tests.{any_has, has_any}
 use Rattle.ci_machine_steps.proofs.Behind.{in_either, has_left, has_right}
@@ -22,55 +22,8 @@ use Rattle.ci_machine_steps.proofs.Variables.{Ordered, filter_ordered, put_order
 use Rattle.ci_machine_steps.proofs.Sound.{rising_from_ascend}
 use Rattle.ci_machine_laws.specs.Reads.{IsHeldBy, IsModeOf, AreGroups, IsHolder, TellsGroups}
 use Rattle.ci_machine_laws.proofs.EachPlan.{Asked, of_asked, is_asked}
-use Rattle.ci_machine_laws.proofs.Numbers.{sound_reached}
+use Rattle.ci_machine_laws.proofs.Numbers.{sound_reached, in_order}
 use Rattle.ci_machine_laws.proofs.Sweeps.{find_none}
-
--- ---- modes stand in their order in each state that a history leads to
-
-mode_total : IsTotalOrder mode_cmp
-mode_total = then_total (on_total (λ (m : GroupMode). m.project) nat_cmp_total) (on_total (λ (m : GroupMode). m.group) nat_list_cmp_total)
-
-abbrev InOrder : State → Type 0
-InOrder s = Ordered mode_cmp s.modes
-
-recorded : (r : Record) (s : State) → InOrder s → InOrder (with_record r s)
-recorded (Record.Project p) s o = o
-recorded (Record.Variable v) s o = o
-recorded (Record.Runner p) s o = o
-recorded (Record.Pipeline p) s o = o
-recorded (Record.Job p) s o = o
-recorded (Record.JobVariable v) s o = o
-recorded (Record.Need n) s o = o
-recorded (Record.Attempt p) s o = o
-recorded (Record.Mode m) s o = put_ordered mode_cmp mode_total m s.modes o
-recorded (Record.Next c n) s o = o
-
-removed : (k : Key) (s : State) → InOrder s → InOrder (without_record k s)
-removed (Key.Project n) s o = o
-removed (Key.Variable n name) s o = o
-removed (Key.Runner n) s o = o
-removed (Key.Pipeline n) s o = o
-removed (Key.Job n) s o = o
-removed (Key.JobVariable n name) s o = o
-removed (Key.JobVariables n) s o = o
-removed (Key.Need n pred) s o = o
-removed (Key.Needs n) s o = o
-removed (Key.Attempt n) s o = o
-removed (Key.Mode n name) s o = filter_ordered mode_cmp _ s.modes o
-removed (Key.Trace n) s o = o
-
-one_change : (c : RowChange) (s : State) → InOrder s → InOrder (changed c s)
-one_change (Put r) s o = recorded r s o
-one_change (Append t) s o = o
-one_change (Remove k) s o = removed k s o
-
-changes_keep : (cs : List RowChange) (s : State) → InOrder s → InOrder (applied cs s)
-changes_keep [] s o = o
-changes_keep (c ∷ cs) s o = changes_keep cs (changed c s) (one_change c s o)
-
-in_order : (h : List Past) (s : State) → Leads h s → InOrder s
-in_order [] s l = subst InOrder (sym l) tt
-in_order (p ∷ h) s l = subst InOrder (sym l.1.state) (changes_keep l.1.changes p.before (in_order h p.before l.0))
 
 -- ---- names, each once
 
@@ -209,7 +162,7 @@ module _ (s : State) (project : ℕ) where
       let k = filter_has (λ (h : Holder). h.project == project) at.0 (holders s) at.1.0 (eq-eqb at.0.project project at.1.1.0) in
       names_come g held_names mode_names (subst (λ n. Has n held_names) at.1.1.1 (has_map (λ (h : Holder). h.group) at.0 (holders_in project (holders s)) k))
 
-  are_groups : InOrder s → AreGroups s project (group_names s project)
+  are_groups : Ordered mode_cmp s.modes → AreGroups s project (group_names s project)
   are_groups o = record {
     ascend = ascends (group_names s project) (with_ordered held_names mode_names (names_ordered project (modes_in project s.modes)
         (λ m k. eqb-true m.project project (has_filter (λ (w : GroupMode). w.project == project) m s.modes k).1)
@@ -232,7 +185,7 @@ module _ (s : State) (project : ℕ) where
 
 -- ---- what is told of them
 
-module _ (s : State) (board : List BoardRow) (o : InOrder s) (rise : Rising (λ (a : Attempt). a.id) 0 s.attempts) (named : ℕ) where
+module _ (s : State) (board : List BoardRow) (o : Ordered mode_cmp s.modes) (rise : Rising (λ (a : Attempt). a.id) 0 s.attempts) (named : ℕ) where
   abbrev Tells : Plan → Type 0
   Tells plan = plan.0.code ≡ None → TellsGroups s named plan.0
 
@@ -254,4 +207,4 @@ groups_told s t query now seed reply reaches is step none =
     let rise = rising_from_ascend (λ (a : Attempt). a.id) s.attempts (sound_reached s reaches).attempts_ascend in
     let P : Plan → Type 0 = λ plan. plan.0.code ≡ None → TellsGroups s query.project plan.0 in
     let does : (reply, step.changes) ≡ read s step.before r Subject.ResourceGroups = step.happens ∙ ap (λ w. read s step.before r w) is in
-    subst P (sym does) (tells s step.before (in_order reaches.0 s reaches.1) rise query.project r (is_asked s query.token query.project)) none
+    subst P (sym does) (tells s step.before (in_order reaches.0 s reaches.1).1 rise query.project r (is_asked s query.token query.project)) none

@@ -4,7 +4,7 @@ use Rattle.std.proofs.Common.{nat_cmp, is_eq, is_lt, Ordering, refl, sym, ap, su
 use Rattle.std.specs.Str.{bytes_eq}
 use Rattle.std.proofs.lemmas.Bool.{cond_both, cond-true, cond-false, both_ways, false≢true}
 use Rattle.std.proofs.lemmas.List.{append-nil, length-append}
-use Rattle.ci_machine_steps.specs.Prelude.{AttemptState, Live, Succeeded, Cancelled, is_live_state, Attempt, Trace, Lease, LeaseFault, NotLive, LeaseOver, PieceFault, RowChange}
+use Rattle.ci_machine_steps.specs.Prelude.{AttemptState, Live, Succeeded, is_live_state, Attempt, Trace, Lease, LeaseFault, NotLive, LeaseOver, PieceFault, RowChange}
 use Rattle.ci_machine_steps.specs.Prelude.{Put, Record, Event, UpdateJob, AppendTrace, Seed, Report, JobUpdate, TracePart, M5, HttpStatus, Fine, Reply, Answer, State, applied}
 use Rattle.ci_machine_steps.specs.Prelude.{placed, put, others, attempt_cmp, trace_cmp, trace_in, with_bytes, is_live, is_over, while_leased, renewed, accepted, same_exit}
 use Rattle.ci_machine_steps.specs.Prelude.{is_same_end, finished, status_of_state, refusal, Plan, refused, heard, ended, reported, update_job, grown, appended, append_trace}
@@ -15,7 +15,8 @@ use Rattle.ci_machine.proofs.Keyed.{Has, Rising, rising_put, find_has, has_find,
 use Rattle.ci_machine.proofs.Filters.{filter_implied}
 use Rattle.ci_machine_steps.proofs.Traces.{its_trace}
 use Rattle.ci_machine_laws.specs.Repeats.{is_of_runner, is_final, WasJustSent, TwiceIsOnce, IsTakenEnd, IsAnsweredAgain, while_there, once_pruned, EndsOnce, OfEachLine, RepeatsChangeNothing}
-use Rattle.ci_machine_laws.proofs.Ends.{HasGone}
+use Rattle.ci_machine_laws.proofs.Ends.{HasGone, while_live}
+use Rattle.ci_machine_laws.proofs.Linked.{has_self}
 use Rattle.ci_machine_laws.proofs.Reached.{reached}
 use Rattle.ci_machine_laws.proofs.Pieces.{Fits, accepted_fits}
 
@@ -41,10 +42,6 @@ module _ {A : Type 0} (id : A → ℕ) (x y : A) (same : id x ≡ id y) where
       ap (placed by_id y) (placed_gone (others by_id x zs)
       ∙ filter_implied (λ z. not (is_eq (by_id z y))) (λ z. not (is_eq (by_id z x))) zs (λ z k e. subst (λ n. not (is_eq (nat_cmp (id z) n)) ≡ true) (sym same) e))
 
-has_self : {A : Type 0} (cmp : A → A → Ordering) (x : A) (xs : List A) → Has x (placed cmp x xs)
-has_self cmp x [] = inl refl
-has_self cmp x (z ∷ zs) = cond_both (is_lt (cmp z x)) (z ∷ placed cmp x zs) (x ∷ z ∷ zs) (λ l. Has x l) (λ _. inr (has_self cmp x zs)) (λ _. inl refl)
-
 -- the attempt that was put is found at its number
 found_put : (n : ℕ) (x : Attempt) (xs : List Attempt) → Rising (λ (a : Attempt). a.id) 0 xs → x.id ≡ n → find (λ a. a.id == n) (put attempt_cmp x xs) ≡ Some x
 found_put n x xs rise its =
@@ -67,9 +64,7 @@ rests f s plan is none =
 while_ok : {A : Type 0} (state : AttemptState) (over : Bool) (x y : A) → while_leased state over x ≡ Ok y → y ≡ x
 while_ok Live true x y e = absurd (cc)
 while_ok Live false x y e = cc
-while_ok (Succeeded exit) over x y e = absurd (cc)
-while_ok (Failed cause exit) over x y e = absurd (cc)
-while_ok Cancelled over x y e = absurd (cc)
+while_ok state over x y e = absurd (cc)
 
 same_exit_self : (exit : Option ℕ) → same_exit exit exit ≡ true
 same_exit_self None = refl
@@ -78,9 +73,7 @@ same_exit_self (Some x) = eq-eqb x x refl
 -- what is the same final state isn't live
 same_ended : (old final : AttemptState) → is_same_end old final ≡ true → is_live_state old ≡ false
 same_ended Live final e = absurd (false≢true e)
-same_ended (Succeeded x) final e = refl
-same_ended (Failed cause x) final e = refl
-same_ended Cancelled final e = refl
+same_ended old final e = refl
 
 max_again : (seen now : ℕ) → max (max seen now) now ≡ max seen now
 max_again seen now = omega arith
@@ -164,12 +157,6 @@ settled_again s rise u reply is now =
 -- how an attempt comes to stand
 abbrev Finishes : Attempt → AttemptState → AttemptState → Type 0
 Finishes a final state = ((state ≡ a.state) × (is_same_end a.state final ≡ true)) ⊎ ((state ≡ final) × (is_live a ≡ true))
-
-while_live : {A : Type 0} (state : AttemptState) (over : Bool) (x y : A) → while_leased state over x ≡ Ok y → is_live_state state ≡ true
-while_live Live over x y e = refl
-while_live (Succeeded exit) over x y e = absurd (cc)
-while_live (Failed cause exit) over x y e = absurd (cc)
-while_live Cancelled over x y e = absurd (cc)
 
 finishes : (a : Attempt) (limit now : ℕ) (final state : AttemptState) → finished a limit now final ≡ Ok state → Finishes a final state
 finishes a limit now final state =

@@ -3,9 +3,9 @@ use Rattle.std.proofs.Common.{◌≡◌, ℕ, Bool, true, false, not, nat_lt, �
 use Rattle.std.proofs.Common.{⊎_elim, arith, eq-eqb, eqb-true}
 use Rattle.std.proofs.lemmas.Bool.{cond_both, cond-true}
 use Rattle.ci_machine_steps.specs.Prelude.{is_name, no_facts, Status, BoardRow, Claim, Job, Pipeline, Project, RowChange, Answer, Code, M2, M3, M10, M11, M12, M13, M14, M15}
-use Rattle.ci_machine_steps.specs.Prelude.{Detail, K, Reply, Event, JobQuery, NewPipeline, PipelineQuery, Request, AddProject, AddRunner, PauseRunner, SetFile, SetVariable}
-use Rattle.ci_machine_steps.specs.Prelude.{DeleteVariable, SetMode, ShowMode, CreatePipeline, ShowPipeline, AskJob, UpdateJob, AppendTrace, ShowJob, ShowTrace, Read, Play}
-use Rattle.ci_machine_steps.specs.Prelude.{CancelJob, CancelPipeline, RetryJob, PruneOne, Seed, State, pipeline_cmp, job_cmp, attempt_cmp, others, applied, jobs_of, attempts_of}
+use Rattle.ci_machine_steps.specs.Prelude.{Detail, K, Reply, Event, JobQuery, NewPipeline, PipelineQuery, Request}
+use Rattle.ci_machine_steps.specs.Prelude.{CreatePipeline, ShowPipeline, ShowJob, Play}
+use Rattle.ci_machine_steps.specs.Prelude.{CancelJob, CancelPipeline, RetryJob, Seed, State, pipeline_cmp, job_cmp, attempt_cmp, others, applied, jobs_of, attempts_of}
 use Rattle.ci_machine_steps.specs.Prelude.{facts_of, rows_of, status_for, AreBoard, claims_in, Plan, faulted, asked_project, have_names, file_or_none, file_for, may_create, Layout}
 use Rattle.ci_machine_steps.specs.Prelude.{lacks_numbers, creation, creation_changes, ShowsCreated, MakesUnless, Makes, Creates, permitted, ShowsJobAfter, ShowsPipelineAfter}
 use Rattle.ci_machine_steps.specs.Prelude.{ActsOn, is_cancellable, cancellable_jobs, cancel, CancelsSome, CancelsPipeline, is_playable, play, is_retryable, retry, job_within}
@@ -33,13 +33,7 @@ number j = j.id
 
 good_shown : (claims : List Claim) (project : ℕ) (its : Status) (j : Job) → job_shown claims project (job_for_good j) its ≡ job_shown claims project j its
 good_shown claims project Status.Created j = refl
-good_shown claims project Status.Pending j = refl
-good_shown claims project Status.Running j = refl
-good_shown claims project Status.Success j = refl
-good_shown claims project Status.Failed j = refl
-good_shown claims project Status.Canceled j = refl
-good_shown claims project Status.Skipped j = refl
-good_shown claims project Status.Manual j = refl
+good_shown claims project its j = refl
 
 shown_alike : (claims : List Claim) (project : ℕ) (its : Status) (j k : Job) → job_for_good j ≡ job_for_good k → job_shown claims project j its ≡ job_shown claims project k its
 shown_alike claims project its j k same = sym (good_shown claims project its j) ∙ (ap (λ (w : Job). job_shown claims project w its) same ∙ good_shown claims project its k)
@@ -171,32 +165,14 @@ module _ (s t : State) (rise : Rising (λ (j : Job). j.id) 0 s.jobs) (once : Boa
   by_request (RetryJob q) before now chance is does none =
       again (λ j. retry (attempts_of s j.id) j) (retries s)
       (acted s before query (λ j. retry (attempts_of s j.id) j) is_retryable M11 f (found_job s query) refl (subst (λ (x : JobQuery). Does s before (RetryJob x) now chance f) is does) none)
-  by_request (AddProject _) before now chance is does none = absurd is
-  by_request (AddRunner _) before now chance is does none = absurd is
-  by_request (PauseRunner _) before now chance is does none = absurd is
-  by_request (SetFile _) before now chance is does none = absurd is
-  by_request (SetVariable _) before now chance is does none = absurd is
-  by_request (DeleteVariable _) before now chance is does none = absurd is
-  by_request (SetMode _) before now chance is does none = absurd is
-  by_request (ShowMode _) before now chance is does none = absurd is
-  by_request (CreatePipeline _) before now chance is does none = absurd is
-  by_request (ShowPipeline _) before now chance is does none = absurd is
-  by_request (AskJob _) before now chance is does none = absurd is
-  by_request (UpdateJob _) before now chance is does none = absurd is
-  by_request (AppendTrace _) before now chance is does none = absurd is
-  by_request (ShowJob _) before now chance is does none = absurd is
-  by_request (ShowTrace _) before now chance is does none = absurd is
-  by_request (Read _) before now chance is does none = absurd is
-  by_request (CancelPipeline _) before now chance is does none = absurd is
-  by_request (PruneOne _) before now chance is does none = absurd is
+  by_request request before now chance is does none = absurd is
 
 -- ---- a pipeline
 
 -- the pipeline that was asked for is the one that was found
 asked_for : (r : Result Project Code) (o : Option Pipeline) (p : Pipeline) → asked_pipeline r o ≡ Ok p → o ≡ Some p
-asked_for (Err code) o p e = absurd (cc)
-asked_for (Ok project) None p e = absurd (cc)
 asked_for (Ok project) (Some q) p e = cond_both (q.project == project.id) (Ok q) (Err M3) (λ (r : Result Pipeline Code). r ≡ Ok p → Some q ≡ Some p) (λ _ f. cc) (λ _ f. absurd (cc)) e
+asked_for r o p e = absurd (cc)
 
 some_are : (s : State) (p : Pipeline) (jobs : List Job) (f : Plan) → CancelsSome s p jobs f → f.0.code ≡ None → ShowsPipelineAfter s p (cancel s.attempts jobs) f
 some_are s p [] f does none = let bad : Some M12 ≡ None = sym (ap (λ (g : Plan). g.0.code) does) ∙ none in absurd (cc)

@@ -571,9 +571,8 @@ so_many law now h s t (d ∷ did) leads one sweeps something =
     omega arith
 
 nothing_changes : (o : Option Lease) (redundant : Option Pipeline) (attempts : List Attempt) (jobs : List Job) → (sweep o redundant attempts jobs).0 ≡ Swept.Nothing → (sweep o redundant attempts jobs).1 ≡ []
-nothing_changes (Some l) redundant attempts jobs e = absurd (cc)
-nothing_changes None (Some p) attempts jobs e = absurd (cc)
 nothing_changes None None attempts jobs e = refl
+nothing_changes due redundant attempts jobs e = absurd (cc)
 
 -- where a sweep finds nothing, nothing is due and no pipeline is redundant, in the state after it too
 pub none_left : (now : ℕ) (h : List Past) (s t : State) (did : List Swept) → Leads h s → Sweeps now s (did ++ (Swept.Nothing ∷ [])) t → NoneIsDue t now × NoneIsRedundant t
@@ -593,10 +592,8 @@ none_left now h s t (d ∷ did) leads sweeps =
 -- ---- they end
 
 nothing_or : (d : Swept) → (d ≡ Swept.Nothing) ⊎ (d ≡ Swept.Nothing → ⊥)
-nothing_or (Swept.Ended attempt cause) = inr (λ e. cc)
-nothing_or (Swept.Cancelled pipeline) = inr (λ e. cc)
-nothing_or (Swept.Refused code) = inr (λ e. cc)
 nothing_or Swept.Nothing = inl refl
+nothing_or d = inr (λ e. cc)
 
 module _ (now : ℕ) (seed : Seed) (h : List Past) (s : State) (leads : Leads h s) (one : HasOneBoard s) (did : Swept) (t : State) (step : Step s Event.Sweep now seed (Answer.Swept did) t) where
   -- where the sweep finds nothing
