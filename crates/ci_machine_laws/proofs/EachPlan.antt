@@ -4,7 +4,7 @@ use Rattle.std.specs.Str.{bytes_eq}
 use Rattle.std.proofs.lemmas.Bool.{cond_both, and_parts, false≢true}
 use Rattle.ci_machine_steps.specs.Prelude.{Status, BoardRow, Project, Pipeline, Job, Attempt, AttemptState, Lease, LeaseFault, NotLive, LeaseOver, PieceFault, Unleased}
 use Rattle.ci_machine_steps.specs.Prelude.{WrongOffset, TraceFull, Runner, QueuedJob, JobVariable, is_variable_name, Facts, Row, Variable, Claim, GroupMode, GroupOrder, NewRunner}
-use Rattle.ci_machine_steps.specs.Prelude.{NewFile, NewVariable, VariableQuery, NewMode, GroupQuery, NewPipeline, PipelineQuery, Event, Request, AddProject, AddRunner, PauseRunner}
+use Rattle.ci_machine_steps.specs.Prelude.{NewVariable, NewMode, NewPipeline, Event, Request, AddProject, AddRunner, PauseRunner}
 use Rattle.ci_machine_steps.specs.Prelude.{SetFile, SetVariable, DeleteVariable, SetMode, ShowMode, CreatePipeline, ShowPipeline, AskJob, UpdateJob, AppendTrace, ShowJob}
 use Rattle.ci_machine_steps.specs.Prelude.{ShowTrace, Read, Play, CancelJob, CancelPipeline, RetryJob, PruneOne, Report, JobUpdate, TracePart, JobQuery, Subject, ReadQuery, Seed}
 use Rattle.ci_machine_steps.specs.Prelude.{Code, M1, M2, M3, M4, M5, M10, M11, M12, M13, M14, M15, M16, M17, Detail, K, Body, Json}
@@ -84,28 +84,16 @@ module _ (s : State) (P : Plan → Type 0) (of_code : (c : Code) → IsMachineCo
   sets named text plan h (Err code) asked is = subst P (sym is) (of_code code asked)
   sets named text plan h (Ok project) asked is = subst P (sym is.2) (file_said project text (λ c. h project c asked.0) is.0)
 
-  -- a project's file is to be a text
-  pub of_file : (new : NewFile) (plan : Plan) → ((project : Project) (c : Config) → Has project s.projects → P (file_set project new.text c)) → SetsFile (of_asked s new.token new.project) new.text plan → P plan
-  of_file new plan h = sets new.project new.text plan h (of_asked s new.token new.project) (is_asked s new.token new.project)
-
   puts : (named : ℕ) (vs : List Variable) (new : NewVariable) → ((project : Project) → P (variable_set project new)) → (r : Result Project Code) → Asked s named r → P (set_variable r vs new)
   puts named vs new h (Err code) asked = of_code code asked
   puts named vs new h (Ok project) asked =
       cond_both (nat_lt MAX_VARIABLES (count_with new.key vs)) (faulted (Detail.Code (K 11))) _ P (λ _. of_fault (Detail.Code (K 11))) (λ _.
       cond_both (not (is_variable_name new.key)) (faulted (Detail.Code (K 12))) (variable_set project new) P (λ _. of_fault (Detail.Code (K 12))) (λ _. h project))
 
-  -- a variable is to have a value
-  pub of_variable : (new : NewVariable) → ((project : Project) → P (variable_set project new)) → P (set_variable (of_asked s new.token new.project) (project_variables s new.project) new)
-  of_variable new h = puts new.project (project_variables s new.project) new h (of_asked s new.token new.project) (is_asked s new.token new.project)
-
   removes : (named : ℕ) → ((v : Variable) → P (variable_gone v)) → (found : Option Variable) (r : Result Project Code) → Asked s named r → P (delete_variable r found)
   removes named h found (Err code) asked = of_code code asked
   removes named h None (Ok project) asked = of_code M3 tt
   removes named h (Some v) (Ok project) asked = h v
-
-  -- a variable is to go
-  pub of_removal : (query : VariableQuery) → ((v : Variable) → P (variable_gone v)) → P (delete_variable (of_asked s query.token query.project) (variable_at s query.project query.key))
-  of_removal query h = removes query.project h (variable_at s query.project query.key) (of_asked s query.token query.project) (is_asked s query.token query.project)
 
   -- ---- the process mode of a resource group
 
@@ -119,18 +107,9 @@ module _ (s : State) (P : Plan → Type 0) (of_code : (c : Code) → IsMachineCo
   sets_mode named new h gone (Err code) asked = of_code code asked
   sets_mode named new h gone (Ok project) asked = orders project.id new.group h gone new.order
 
-  -- a resource group is to have a process mode
-  pub of_mode : (new : NewMode) → ((m : GroupMode) → P (mode_told m.group (Some m.order), Put (Record.Mode m) ∷ [])) → ((n : ℕ) (name : List ℕ) → P (mode_told name None, Remove (Key.Mode n name) ∷ []))
-      → P (set_mode (of_asked s new.token new.project) new)
-  of_mode new h gone = sets_mode new.project new h gone (of_asked s new.token new.project) (is_asked s new.token new.project)
-
   tells_mode : (named : ℕ) (group : List ℕ) (order : Option GroupOrder) → P (mode_told group order, []) → (r : Result Project Code) → Asked s named r → P (show_mode r order group)
   tells_mode named group order h (Err code) asked = of_code code asked
   tells_mode named group order h (Ok project) asked = h
-
-  -- a resource group is told with the order that it has
-  pub of_order : (query : GroupQuery) (order : Option GroupOrder) → P (mode_told query.group order, []) → P (show_mode (of_asked s query.token query.project) order query.group)
-  of_order query order h = tells_mode query.project query.group order h (of_asked s query.token query.project) (is_asked s query.token query.project)
 
   -- ---- a pipeline is to be made
 
@@ -162,10 +141,6 @@ module _ (s : State) (P : Plan → Type 0) (of_code : (c : Code) → IsMachineCo
       cond_both (not (have_names new.variables)) (Err (faulted (Detail.Code (K 12)))) (file_or_none project.file) C (λ _ k. subst P (sym k) (of_fault (Detail.Code (K 12))))
       (λ _. reads new now plan h project is asked project.file refl))) made
 
-  pub of_creation : (new : NewPipeline) (now : ℕ) (plan : Plan) → OfCreation s P new now
-      → Creates s new (given_in s new) now (may_create (of_asked s new.token new.project) new) plan → P plan
-  of_creation new now plan h = creates new now plan h (of_asked s new.token new.project) refl (is_asked s new.token new.project)
-
   -- ---- a pipeline is shown
 
   shows : (claims : List Claim) (jobs : List Job) (facts : List Facts) (rows : List Row) → ((p : Pipeline) → P (pipeline_shown p claims jobs facts rows)) → (named : ℕ) (found : Option Pipeline) (r : Result Project Code) → Asked s named r
@@ -174,10 +149,6 @@ module _ (s : State) (P : Plan → Type 0) (of_code : (c : Code) → IsMachineCo
   shows claims jobs facts rows h named None (Ok project) asked = of_code M3 tt
   shows claims jobs facts rows h named (Some p) (Ok project) asked =
       cond_both (p.project == project.id) (Ok p) (Err M3) (λ r. P (show_pipeline r claims jobs facts rows)) (λ _. h p) (λ _. of_code M3 tt)
-
-  pub of_pipeline : (query : PipelineQuery) (claims : List Claim) (jobs : List Job) (facts : List Facts) (rows : List Row) → ((p : Pipeline) → P (pipeline_shown p claims jobs facts rows))
-      → P (show_pipeline (asked_pipeline (of_asked s query.token query.project) (pipeline_at s query.pipeline)) claims jobs facts rows)
-  of_pipeline query claims jobs facts rows h = shows claims jobs facts rows h query.project (pipeline_at s query.pipeline) (of_asked s query.token query.project) (is_asked s query.token query.project)
 
 -- ---- what a user does to jobs
 
@@ -226,19 +197,6 @@ module _ (s : State) (board : List BoardRow) (P : Plan → Type 0) (of_code : (c
   acts_on act are test code m query plan is =
       acts act are plan (permitted board test code (found_job s query)) (permits test code m (found_job s query) (found_by s query (project_with s query.token))) is
 
-  -- a job is to be played
-  pub of_play : (query : JobQuery) (plan : Plan) → ActsOn s play (permitted board is_playable M10 (found_job s query)) plan → P plan
-  of_play query plan is = acts_on play (plays s) is_playable M10 tt query plan is
-
-  -- a job is to be tried again
-  pub of_retry : (query : JobQuery) (plan : Plan) → ActsOn s (λ j. retry (attempts_of s j.id) j) (permitted board is_retryable M11 (found_job s query)) plan → P plan
-  of_retry query plan is = acts_on (λ j. retry (attempts_of s j.id) j) (retries s) is_retryable M11 tt query plan is
-
-  -- a job is to be cancelled
-  pub of_job_cancel : (query : JobQuery) (plan : Plan) → ActsOn s (λ j. cancel s.attempts (j ∷ [])) (permitted board is_cancellable M12 (found_job s query)) plan → P plan
-  of_job_cancel query plan is =
-      acts_on (λ j. cancel s.attempts (j ∷ [])) (λ j has. cancels s (j ∷ []) (λ w k. ⊎_elim (λ e. subst (λ (v : Job). Has v s.jobs) (sym e) has) (λ m. absurd m) k)) is_cancellable M12 tt query plan is
-
   cancels_some : (plan : Plan) (p : Pipeline) (jobs : List Job) → ((j : Job) → Has j jobs → Has j s.jobs) → CancelsSome s p jobs plan → P plan
   cancels_some plan p [] within is = subst P (sym is) (of_code M12 tt)
   cancels_some plan p (j ∷ js) within is =
@@ -250,11 +208,6 @@ module _ (s : State) (board : List BoardRow) (P : Plan → Type 0) (of_code : (c
   cancels_by plan (Err code) found is = subst P (sym is) (of_code code found)
   cancels_by plan (Ok p) found is =
       cancels_some plan p (cancellable_jobs s board p.id) (cancellable_within s board p.id) is
-
-  -- the jobs of a pipeline are to be cancelled
-  pub of_cancel : (query : PipelineQuery) (plan : Plan) → CancelsPipeline s board (found_pipeline s query) plan → P plan
-  of_cancel query plan is =
-      cancels_by plan (found_pipeline s query) (pipeline_by s query.project (pipeline_at s query.pipeline) (of_asked s query.token query.project) (is_asked s query.token query.project)) is
 
 -- ---- what is read of a project
 
@@ -424,18 +377,20 @@ pub does : (s : State) (board : List BoardRow) (P : Plan → Type 0) (request : 
 does s board P (AddProject name) each now seed plan is = subst P (sym is) (projects s board (AddProject name) P each name refl seed)
 does s board P (AddRunner new) each now seed plan is = subst P (sym is) (runners s board (AddRunner new) P each (project_named s new.project) new refl seed)
 does s board P (PauseRunner pause) each now seed plan is = subst P (sym is) (pauses s board (PauseRunner pause) P each pause.runner pause.paused (runner_at s pause.runner) refl)
-does s board P (SetFile new) each now seed plan is = of_file s P each.refused each.faulted new plan (λ project c has. each.file project new.text c has) is
-does s board P (SetVariable new) each now seed plan is = subst P (sym is) (of_variable s P each.refused each.faulted new (λ project. each.variable project new))
-does s board P (DeleteVariable query) each now seed plan is = subst P (sym is) (of_removal s P each.refused each.faulted query each.gone)
-does s board P (SetMode new) each now seed plan is = subst P (sym is) (of_mode s P each.refused each.faulted new (each.mode new refl) (each.unordered new refl))
+does s board P (SetFile new) each now seed plan is = sets s P each.refused each.faulted new.project new.text plan (λ project c has. each.file project new.text c has) (of_asked s new.token new.project) (is_asked s new.token new.project) is
+does s board P (SetVariable new) each now seed plan is =
+    subst P (sym is) (puts s P each.refused each.faulted new.project (project_variables s new.project) new (λ project. each.variable project new) (of_asked s new.token new.project) (is_asked s new.token new.project))
+does s board P (DeleteVariable query) each now seed plan is =
+    subst P (sym is) (removes s P each.refused each.faulted query.project each.gone (variable_at s query.project query.key) (of_asked s query.token query.project) (is_asked s query.token query.project))
+does s board P (SetMode new) each now seed plan is = subst P (sym is) (sets_mode s P each.refused each.faulted new.project new (each.mode new refl) (each.unordered new refl) (of_asked s new.token new.project) (is_asked s new.token new.project))
 does s board P (ShowMode query) each now seed plan is =
     let order = order_of s.modes query.project query.group in
-    subst P (sym is) (of_order s P each.refused each.faulted query order (each.mode_shown query.group order))
-does s board P (CreatePipeline new) each now seed plan is = of_creation s P each.refused each.faulted new now plan (each.pipeline new now refl) is
+    subst P (sym is) (tells_mode s P each.refused each.faulted query.project query.group order (each.mode_shown query.group order) (of_asked s query.token query.project) (is_asked s query.token query.project))
+does s board P (CreatePipeline new) each now seed plan is = creates s P each.refused each.faulted new now plan (each.pipeline new now refl) (of_asked s new.token new.project) refl (is_asked s new.token new.project) is
 does s board P (ShowPipeline query) each now seed plan is =
     let n = query.pipeline in
     let claims = claims_in s board n in
-    subst P (sym is) (of_pipeline s P each.refused each.faulted query claims (jobs_of s n) (facts_of s n) (rows_of s board n) (λ p. each.pipeline_shown p claims (jobs_of s n) (facts_of s n) (rows_of s board n)))
+    subst P (sym is) (shows s P each.refused each.faulted claims (jobs_of s n) (facts_of s n) (rows_of s board n) (λ p. each.pipeline_shown p claims (jobs_of s n) (facts_of s n) (rows_of s board n)) query.project (pipeline_at s n) (of_asked s query.token query.project) (is_asked s query.token query.project))
 does s board P (AskJob token) each now seed plan is = subst P (sym is) (asks s board (AskJob token) P each token refl now seed (runner_with s token) refl)
 does s board P (UpdateJob update) each now seed plan is = subst P (sym is) (updates s board (UpdateJob update) P each update now (attempt_at s update.attempt) refl)
 does s board P (AppendTrace part) each now seed plan is = subst P (sym is) (appends s board (AppendTrace part) P each part refl now (attempt_at s part.attempt) refl)
@@ -449,10 +404,12 @@ does s board P (ShowTrace query) each now seed plan is =
     let trace = trace_if_any s (last_attempt s query.job) in
     subst P (sym is) (asked (λ r. P (traced r trace)) (λ j. each.traced trace) (λ c m. each.refused c m) (project_with s query.token) job (pipeline_of s job) query)
 does s board P (Read query) each now seed plan is = subst P (sym is) (of_read P each.refused each.read s board query)
-does s board P (Play query) each now seed plan is = of_play s board P each.refused each.acted query plan is
-does s board P (CancelJob query) each now seed plan is = of_job_cancel s board P each.refused each.acted query plan is
-does s board P (RetryJob query) each now seed plan is = of_retry s board P each.refused each.acted query plan is
-does s board P (CancelPipeline query) each now seed plan is = of_cancel s board P each.refused each.acted query plan is
+does s board P (Play query) each now seed plan is = acts_on s board P each.refused each.acted play (plays s) is_playable M10 tt query plan is
+does s board P (CancelJob query) each now seed plan is =
+    acts_on s board P each.refused each.acted (λ j. cancel s.attempts (j ∷ [])) (λ j has. cancels s (j ∷ []) (λ w k. ⊎_elim (λ e. subst (λ (v : Job). Has v s.jobs) (sym e) has) (λ m. absurd m) k)) is_cancellable M12 tt query plan is
+does s board P (RetryJob query) each now seed plan is = acts_on s board P each.refused each.acted (λ j. retry (attempts_of s j.id) j) (retries s) is_retryable M11 tt query plan is
+does s board P (CancelPipeline query) each now seed plan is =
+    cancels_by s board P each.refused each.acted plan (found_pipeline s query) (pipeline_by s query.project (pipeline_at s query.pipeline) (of_asked s query.token query.project) (is_asked s query.token query.project)) is
 does s board P (PruneOne before) each now seed plan is = subst P (sym is) (prunes s board (PruneOne before) P each before refl (prunable_in s board before) refl)
 
 -- where the plan is a refusal, it changes nothing; and its reply says neither M16 nor M17

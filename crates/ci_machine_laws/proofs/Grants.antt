@@ -3,6 +3,9 @@ use Rattle.std.proofs.Common.{◌≡◌, ◌⊎◌, ℕ, ◌+◌, ◌<◌, ◌�
 use Rattle.std.proofs.lemmas.Bool.{cond-true, cond-false, and_parts, ne_eqb}
 use Rattle.ci_machine_steps.specs.Prelude.{Runner, Job, Attempt, Event, AskJob, State, empty, attempt_cmp, put, attempts_of, is_live, last_attempt, Past, grants, IsLeastEligible}
 use Rattle.ci_machine_steps.specs.Prelude.{OneLease}
+use Rattle.ci_machine_steps.specs.Prelude.{RowChange}
+use Rattle.ci_machine_steps.proofs.Behind.{put_all}
+use Rattle.ci_machine_laws.proofs.Acts.{IsAct, came}
 use Rattle.ci_machine.proofs.Keyed.{Has, Rising, has_put, rising_put, rising_filter, has_filter, filter_has, last_greatest, count_one}
 
 -- just one line granted the attempt, to the least eligible job: as the law says, but for how the job came into its pipeline
@@ -67,54 +70,6 @@ longer p h a isnt w = record {
   asked = w.asked;
 }
 
--- a step that leaves the attempts
-pub keeps : (h : List Past) (s t : State) (p : Past) → Grants h s → ((n : ℕ) → grants n p ≡ false)
-    → t.attempts ≡ s.attempts → t.next.attempt ≡ s.next.attempt → Rising (λ (j : Job). j.id) 0 t.jobs → Grants (p ∷ h) t
-keeps h s t p i isnt e f r = record {
-  jobs_rise = r;
-  rise = subst (λ l. Rising (λ (a : Attempt). a.id) 0 l) (sym e) i.rise;
-  below = λ a k. subst (λ n. a.id < n) (sym f) (i.below a (subst (Has a) e k));
-  is_last = λ a b k l. i.is_last a b (subst (Has a) e k) (subst (Has b) e l);
-  granted = λ a k. longer p h a (isnt a.id) (i.granted a (subst (Has a) e k));
-  fresh = λ n l. cond-false (grants n p) (p ∷ filter (grants n) h) (filter (grants n) h) (isnt n) ∙ i.fresh n (subst (λ m. m ≤ n) f l);
-}
-
--- a step that puts x in place of an attempt of its number, job and runner, and makes none live
-pub alters : (h : List Past) (s t : State) (p : Past) (a x : Attempt) → Grants h s → Has a s.attempts → x.id ≡ a.id → x.job ≡ a.job → x.runner ≡ a.runner → (is_live x ≡ true → is_live a ≡ true)
-    → ((n : ℕ) → grants n p ≡ false) → t.attempts ≡ put attempt_cmp x s.attempts → t.next.attempt ≡ s.next.attempt → t.jobs ≡ s.jobs → Grants (p ∷ h) t
-alters h s t p a x i has same_id same_job same_runner live isnt e f r =
-    let cases : (b : Attempt) → Has b t.attempts → (b ≡ x) ⊎ Has b s.attempts = λ b k. has_put attempt_cmp x b s.attempts (subst (Has b) e k) in
-    record {
-      jobs_rise = subst (λ l. Rising (λ (j : Job). j.id) 0 l) (sym r) i.jobs_rise;
-      rise = subst (λ l. Rising (λ (b : Attempt). b.id) 0 l) (sym e) (rising_put (λ (b : Attempt). b.id) x 0 s.attempts i.rise (omega arith));
-      below = λ b k. subst (λ n. b.id < n) (sym f) (⊎_elim (λ q. let m : b.id ≡ x.id = ap (λ (c : Attempt). c.id) q in let z : a.id < s.next.attempt = i.below a has in omega arith) (λ m. i.below b m) (cases b k));
-      is_last = λ b c k l lv j.
-          ⊎_elim
-          (λ q. let bl : is_live a ≡ true = live (ap is_live (sym q) ∙ lv) in
-          let bj : a.job ≡ c.job = sym same_job ∙ (ap (λ (w : Attempt). w.job) (sym q) ∙ j) in
-          let bi : b.id ≡ a.id = ap (λ (w : Attempt). w.id) q ∙ same_id in
-          ⊎_elim (λ u. let ci : c.id ≡ a.id = ap (λ (w : Attempt). w.id) u ∙ same_id in omega arith)
-          (λ m. let z : c.id ≤ a.id = i.is_last a c has m bl bj in omega arith) (cases c l))
-          (λ m. ⊎_elim (λ u. let ci : c.id ≡ a.id = ap (λ (w : Attempt). w.id) u ∙ same_id in
-          let cj : b.job ≡ a.job = j ∙ (ap (λ (w : Attempt). w.job) u ∙ same_job) in
-          let z : a.id ≤ b.id = i.is_last b a m has lv cj in omega arith)
-          (λ w. i.is_last b c m w lv j) (cases c l))
-          (cases b k);
-      granted = λ b k. longer p h b (isnt b.id) (⊎_elim
-          (λ q. subst (WasGiven h) (sym q) (let w = i.granted a has in record {
-            line = w.line;
-            once = subst (λ n. filter (grants n) h ≡ w.line ∷ []) (sym same_id) w.once;
-            runner = w.runner;
-            job = w.job;
-            its_runner = w.its_runner ∙ sym same_runner;
-            its_job = w.its_job ∙ sym same_job;
-            eligible = w.eligible;
-            asked = w.asked;
-          }))
-          (λ m. i.granted b m) (cases b k));
-      fresh = λ n l. cond-false (grants n p) (p ∷ filter (grants n) h) (filter (grants n) h) (isnt n) ∙ i.fresh n (subst (λ m. m ≤ n) f l);
-    }
-
 -- the attempt was there, with its number, job and runner, and was live if it is
 pub record Stood (s : State) (b : Attempt) : Type 0 where
   pub old : Attempt
@@ -123,6 +78,39 @@ pub record Stood (s : State) (b : Attempt) : Type 0 where
   pub job : old.job ≡ b.job
   pub runner : old.runner ≡ b.runner
   pub live : is_live b ≡ true → is_live old ≡ true
+
+pub stood_self : (s : State) (b : Attempt) → Has b s.attempts → Stood s b
+stood_self s b k = record { old = b; has = k; id = refl; job = refl; runner = refl; live = λ l. l }
+
+-- x in place of an attempt of its number, job and runner
+pub stood_put : (s : State) (x a : Attempt) → Has a s.attempts → x.id ≡ a.id → x.job ≡ a.job → x.runner ≡ a.runner → is_live a ≡ true → (b : Attempt) → Has b (put attempt_cmp x s.attempts) → Stood s b
+stood_put s x a has same_id same_job same_runner live b k =
+    ⊎_elim
+    (λ e. record {
+      old = a;
+      has = has;
+      id = sym (ap (λ (c : Attempt). c.id) e ∙ same_id);
+      job = sym (ap (λ (c : Attempt). c.job) e ∙ same_job);
+      runner = sym (ap (λ (c : Attempt). c.runner) e ∙ same_runner);
+      live = λ _. live;
+    })
+    (stood_self s b)
+    (has_put attempt_cmp x b s.attempts k)
+
+-- what an act leaves
+pub stood_act : (s : State) (changes : List RowChange) (act : IsAct s changes) (b : Attempt) → Has b (put_all attempt_cmp act.attempts s.attempts) → Stood s b
+stood_act s changes act b k =
+    ⊎_elim
+    (stood_self s b)
+    (λ w. record {
+      old = w.old;
+      has = w.has;
+      id = sym (ap (λ (c : Attempt). c.id) w.is);
+      job = sym (ap (λ (c : Attempt). c.job) w.is);
+      runner = sym (ap (λ (c : Attempt). c.runner) w.is);
+      live = λ _. w.live;
+    })
+    (came s changes act b k)
 
 -- a step with no attempts but those that were there
 pub stand : (h : List Past) (s t : State) (p : Past) → Grants h s → ((n : ℕ) → grants n p ≡ false) → ((b : Attempt) → Has b t.attempts → Stood s b)

@@ -6,7 +6,7 @@ use Rattle.std.specs.Str.{bytes_eq}
 use Rattle.std.proofs.lemmas.Bool.{cases_Bool, both_ways, false≢true, and_parts}
 use Rattle.std.proofs.lemmas.Slice.Eq.{bytes_eq-Decides}
 use Rattle.ci_machine_steps.specs.Prelude.{BoardRow, Holder, Pipeline, Job, Attempt, QueuedJob, Event}
-use Rattle.ci_machine_steps.specs.Prelude.{State, applied, put, attempt_cmp, jobs_of, is_live, holds, is_free}
+use Rattle.ci_machine_steps.specs.Prelude.{State, applied, attempt_cmp, jobs_of, is_live, holds, is_free}
 use Rattle.ci_machine_steps.specs.Prelude.{held_claim, groups_in}
 use Rattle.ci_machine_steps.specs.Prelude.{is_job_among, without_pipeline, queued_at, group_held, held_by, held_of, holders}
 use Rattle.ci_machine_steps.specs.Prelude.{is_in_group, job_at, pipeline_at, project_or_none, queued, live_attempts, Past}
@@ -15,8 +15,7 @@ use Rattle.ci_machine.proofs.Keyed.{not_true, Has, Rising, has_put, filter_has, 
 use Rattle.ci_machine.proofs.Filters.{find_implied}
 use Rattle.ci_machine.proofs.Claims.{free_held, free_not_held}
 use Rattle.ci_machine_steps.proofs.Pruned.{job_left, attempt_was}
-use Rattle.ci_machine_laws.proofs.Acts.{came}
-use Rattle.ci_machine_laws.proofs.Grants.{Stood}
+use Rattle.ci_machine_laws.proofs.Grants.{Stood, stood_self, stood_put, stood_act}
 use Rattle.ci_machine_laws.proofs.EachNext.{EachNext, next_is}
 use Rattle.ci_machine_laws.proofs.Reached.{reached}
 use Rattle.ci_machine_laws.proofs.Linked.{Later, later, Linked, linked_on, follows}
@@ -98,9 +97,6 @@ record IsNew (s : State) (b : Attempt) : Type 0 where
 abbrev Come : State → State → Type 0
 Come s t = (b : Attempt) → Has b t.attempts → Stood s b ⊎ IsNew s b
 
-there : (s : State) (b : Attempt) → Has b s.attempts → Stood s b
-there s b k = record { old = b; has = k; id = refl; job = refl; runner = refl; live = λ l. l }
-
 comes : (s : State) (board : List BoardRow) (e : Event) → Rising job_id 0 s.jobs → Rising (λ (a : Attempt). a.id) 0 s.attempts → EachNext s board e (λ _ t. Come s t)
 comes s board e jobs_rise rise = record {
   stays = λ _ _. same;
@@ -120,36 +116,14 @@ comes s board e jobs_rise rise = record {
             (free_not_held (groups_in s board) q.job.pipeline q.project q.job.options.resource_group free);
         id = ap (λ (c : Attempt). c.id) e;
       }))
-      (λ m. inl (there s b m)) (has_put attempt_cmp _ b s.attempts k);
-  alters = λ _ _ old seen state has live. altered old _ has live refl refl refl;
-  grown = λ part is old now size has its live. altered old _ has live refl refl refl;
-  acted = λ _ _ changes act b k. inl (⊎_elim
-      (there s b)
-      (λ w. record {
-        old = w.old;
-        has = w.has;
-        id = sym (ap (λ (c : Attempt). c.id) w.is);
-        job = sym (ap (λ (c : Attempt). c.job) w.is);
-        runner = sym (ap (λ (c : Attempt). c.runner) w.is);
-        live = λ l. w.live;
-      })
-      (came s changes act b k));
-  pruned = λ p before is found b k. inl (there s b (attempt_was s p.id jobs_rise rise b k).0);
+      (λ m. inl (stood_self s b m)) (has_put attempt_cmp _ b s.attempts k);
+  alters = λ _ _ old seen state has live b k. inl (stood_put s _ old has refl refl refl live b k);
+  grown = λ part is old now size has its live b k. inl (stood_put s _ old has refl refl refl live b k);
+  acted = λ _ _ changes act b k. inl (stood_act s changes act b k);
+  pruned = λ p before is found b k. inl (stood_self s b (attempt_was s p.id jobs_rise rise b k).0);
 } where
   same : Come s s
-  same b k = inl (there s b k)
-
-  altered : (old x : Attempt) → Has old s.attempts → is_live old ≡ true → x.id ≡ old.id → x.job ≡ old.job → x.runner ≡ old.runner → Come s (record s { attempts = put attempt_cmp x s.attempts })
-  altered old x has live same_id same_job same_runner b k = inl (⊎_elim
-      (λ e. record {
-        old = old;
-        has = has;
-        id = sym (ap (λ (c : Attempt). c.id) e ∙ same_id);
-        job = sym (ap (λ (c : Attempt). c.job) e ∙ same_job);
-        runner = sym (ap (λ (c : Attempt). c.runner) e ∙ same_runner);
-        live = λ _. live;
-      })
-      (there s b) (has_put attempt_cmp x b s.attempts k))
+  same b k = inl (stood_self s b k)
 
 -- ---- every state that a history leads to
 

@@ -17,13 +17,12 @@ use Rattle.ci_machine_steps.specs.Prelude.{is_job_among, pruned_reply, without_p
 use Rattle.ci_machine_steps.specs.Prelude.{runner_with}
 use Rattle.ci_machine_steps.specs.Prelude.{last_attempt, is_pending}
 use Rattle.ci_machine_steps.specs.Prelude.{pending_jobs, queued, queue, Past, Leads, grants, accepted_bytes}
-use Rattle.ci_machine.proofs.Keyed.{Has, Rising, has_put, rising_filter, has_filter, filter_has, has_find, least_find, find-map, one_at, All-from_has, contains_from_has}
+use Rattle.ci_machine.proofs.Keyed.{Has, Rising, rising_put, has_put, rising_filter, has_filter, filter_has, has_find, least_find, find-map, one_at, All-from_has, contains_from_has}
 use Rattle.ci_machine_laws.proofs.Grants as leased
 use Rattle.ci_machine_laws.proofs.Grants.{Grants, grants_empty, live_last}
 use Rattle.ci_machine_laws.proofs.Pending.{pending_free}
 use Rattle.ci_machine_steps.proofs.Behind.{put_all}
 use Rattle.ci_machine_laws.proofs.PutAll.{rising_all, has_still}
-use Rattle.ci_machine_laws.proofs.Acts.{WasLive, came}
 use Rattle.ci_machine_steps.proofs.Pruned.{attempt_was, attempt_left, trace_left}
 use Rattle.ci_machine_laws.proofs.EachPlan.{given_in}
 use Rattle.ci_machine_laws.proofs.EachNext.{IsQuiet, EachNext, next_is}
@@ -98,26 +97,13 @@ starts h s board token now seed are i runner q vs at given found offered =
 lengthens : (h : List Past) (s : State) (part : TracePart) (now : ℕ) (seed : Seed) → Inv h s → (a : Attempt) (at size : ℕ) → Has a s.attempts → a.id ≡ part.attempt → is_live a ≡ true
     → let does = grown a part.bytes at size in On h s (Event.Request (AppendTrace part)) now seed (Answer.Reply does.0) (applied does.1 s)
 lengthens h s part now seed i a at size has its live = record {
-  grants = leased.alters h s _ _ a _ i.grants has refl refl refl (λ l. l) (λ n. refl) refl refl refl;
+  grants = leased.stand h s _ _ i.grants (λ n. refl) (leased.stood_put s _ a has refl refl refl live) (rising_put (λ (b : Attempt). b.id) _ 0 s.attempts i.grants.rise (omega arith)) refl i.grants.jobs_rise;
   traces = trace.grows h s _ _ a _ part.bytes i.traces has (i.grants.below a has) refl (λ n. ap (λ m. if m == n then part.bytes else []) (sym its)) refl refl refl;
   ends = finals.puts h s (applied (grown a part.bytes at size).1 s) _ _ refl i.ends (omega arith, in_place s a _ has refl) refl (only_live i a has live refl);
 }
 
--- an attempt that was there, or was live and is cancelled
-stood : (s : State) (b : Attempt) → Has b s.attempts ⊎ WasLive s b → leased.Stood s b
-stood s b (inl k) = record { old = b; has = k; id = refl; job = refl; runner = refl; live = λ l. l }
-stood s b (inr w) = record {
-  old = w.old;
-  has = w.has;
-  id = sym (ap (λ (c : Attempt). c.id) w.is);
-  job = sym (ap (λ (c : Attempt). c.job) w.is);
-  runner = sym (ap (λ (c : Attempt). c.runner) w.is);
-  live = λ l. w.live;
-}
-
-was : (s : State) (b : Attempt) → Has b s.attempts ⊎ WasLive s b → Was s b ⊎ IsNew s b
-was s b (inl k) = same s b k
-was s b (inr w) = inl (w.old, (w.has, sym (ap (λ (c : Attempt). c.id) w.is)))
+known : (s : State) (b : Attempt) → leased.Stood s b → Was s b ⊎ IsNew s b
+known s b w = inl (w.old, (w.has, w.id))
 
 each : (h : List Past) (s : State) (board : List BoardRow) (e : Event) (now : ℕ) (seed : Seed) → AreBoard s board → Inv h s → EachNext s board e (On h s e now seed)
 each h s board e now seed are i = record {
@@ -140,7 +126,7 @@ each h s board e now seed are i = record {
       let x = record old { seen = seen; state = state } in
       let t : State = record s { attempts = put attempt_cmp x s.attempts } in
       record {
-        grants = leased.alters h s t p old x i.grants has refl refl refl (λ _. live) (isnt a quiet) refl refl refl;
+        grants = leased.stand h s t p i.grants (isnt a quiet) (leased.stood_put s x old has refl refl refl live) (rising_put (λ (b : Attempt). b.id) x 0 s.attempts i.grants.rise (omega arith)) refl i.grants.jobs_rise;
         traces = trace.stays h s t p i.traces quiet.1 refl (omega arith) (in_place s old x has refl);
         ends = finals.puts h s t p x refl i.ends (omega arith, in_place s old x has refl) refl (only_live i old has live refl);
       };
@@ -150,12 +136,12 @@ each h s board e now seed are i = record {
   acted = λ a quiet changes act.
       let p = line s e now seed a in
       let t : State = record s { jobs = put_all job_cmp act.jobs s.jobs; attempts = put_all attempt_cmp act.attempts s.attempts } in
-      let known : (b : Attempt) → Has b t.attempts → Was s b ⊎ IsNew s b = λ b k. was s b (came s changes act b k) in
+      let stood = leased.stood_act s changes act in
       record {
-        grants = leased.stand h s t p i.grants (isnt a quiet) (λ b k. stood s b (came s changes act b k))
+        grants = leased.stand h s t p i.grants (isnt a quiet) stood
             (rising_all (λ (b : Attempt). b.id) act.attempts s.attempts i.grants.rise) refl (rising_all (λ (j : Job). j.id) act.jobs s.jobs i.grants.jobs_rise);
-        traces = trace.stays h s t p i.traces quiet.1 refl (omega arith) known;
-        ends = finals.leaves_ended h s t p refl i.ends (omega arith, known) (λ b k ended. has_still (λ (c : Attempt). c.id) act.attempts s.attempts b k
+        traces = trace.stays h s t p i.traces quiet.1 refl (omega arith) (λ b k. known s b (stood b k));
+        ends = finals.leaves_ended h s t p refl i.ends (omega arith, λ b k. known s b (stood b k)) (λ b k ended. has_still (λ (c : Attempt). c.id) act.attempts s.attempts b k
             (λ c m f. let w = act.each_attempt c m in
             let same : b ≡ w.old = one_at (λ (d : Attempt). d.id) b w.old 0 s.attempts i.grants.rise k w.has (f ∙ ap (λ (d : Attempt). d.id) w.is) in
             both_ways (is_live b) ended (ap is_live same ∙ w.live)));
@@ -169,7 +155,7 @@ each h s board e now seed are i = record {
       let rise = i.grants.rise in
       let had : (b : Attempt) → Has b t.attempts → Has b s.attempts = λ b k. (attempt_was s n jobs_rise rise b k).0 in
       record {
-        grants = leased.stand h s t q i.grants (λ m. ap (λ w. grants m (line s w now seed answer)) is) (λ b k. stood s b (inl (had b k)))
+        grants = leased.stand h s t q i.grants (λ m. ap (λ w. grants m (line s w now seed answer)) is) (λ b k. leased.stood_self s b (had b k))
             (rising_filter (λ (b : Attempt). b.id) _ 0 s.attempts rise) refl (rising_filter (λ (j : Job). j.id) _ 0 s.jobs jobs_rise);
         traces = trace.leaves h s t q i.traces (λ m. ap (λ w. accepted_bytes m w answer) is) (λ u k. (has_filter _ u s.traces k).0) refl had (λ b k. trace_left s n jobs_rise rise b k);
         ends = finals.goes_on h s t q refl i.ends (omega arith, λ b k. same s b (had b k)) (λ a k ended. ⊎_elim
@@ -196,7 +182,7 @@ each h s board e now seed are i = record {
   keeps a none quiet t same_attempts same_traces same_next rise =
       let p = line s e now seed a in
       record {
-        grants = leased.keeps h s t p i.grants none same_attempts same_next rise;
+        grants = leased.stand h s t p i.grants none (λ b k. leased.stood_self s b (subst (Has b) same_attempts k)) (subst (λ l. Rising (λ (b : Attempt). b.id) 0 l) (sym same_attempts) i.grants.rise) same_next rise;
         traces = trace.stays h s t p i.traces quiet same_traces (omega arith) (λ b k. same s b (subst (Has b) same_attempts k));
         ends = finals.stays h s t p refl i.ends same_attempts same_next;
       }

@@ -11,27 +11,19 @@ use Rattle.ci_machine_laws.specs.NoJob as why
 use Rattle.ci_machine_laws.specs.NoJob.{HasGroup, MustWait, IsNotFor}
 use Rattle.ci_machine_laws.proofs.idle.idle_examples.Goals as goal
 
--- the jobs 1 to 3 have the group `prod` of the project 1
+-- a job of the three has the group `prod` of the project 1
+in_group : (n : ℕ) (name : List ℕ) (modes : List GroupMode) (attempts : List Attempt) → Has (ship false n) (three modes attempts).jobs → Has (of_ref n name) (three modes attempts).pipelines → HasGroup (three modes attempts) 1 (codes "prod") (ship false n)
+in_group n name modes attempts job pipeline = record {
+  is_job = contains_from_has (ship false n) (three modes attempts).jobs job;
+  its_group = refl;
+  of_project = (of_ref n name, contains_from_has (of_ref n name) (three modes attempts).pipelines pipeline, refl, refl);
+}
+
 first_in : (modes : List GroupMode) (attempts : List Attempt) → HasGroup (three modes attempts) 1 (codes "prod") (ship false 1)
-first_in modes attempts = record {
-  is_job = contains_from_has (ship false 1) (three modes attempts).jobs (inl refl);
-  its_group = refl;
-  of_project = (of_ref 1 (codes "a"), contains_from_has (of_ref 1 (codes "a")) (three modes attempts).pipelines (inl refl), refl, refl);
-}
+first_in modes attempts = in_group 1 (codes "a") modes attempts (inl refl) (inl refl)
 
-second_in : (modes : List GroupMode) (attempts : List Attempt) → HasGroup (three modes attempts) 1 (codes "prod") (ship false 2)
-second_in modes attempts = record {
-  is_job = contains_from_has (ship false 2) (three modes attempts).jobs (inr (inl refl));
-  its_group = refl;
-  of_project = (of_ref 2 (codes "b"), contains_from_has (of_ref 2 (codes "b")) (three modes attempts).pipelines (inr (inl refl)), refl, refl);
-}
-
-third_in : (modes : List GroupMode) (attempts : List Attempt) → HasGroup (three modes attempts) 1 (codes "prod") (ship false 3)
-third_in modes attempts = record {
-  is_job = contains_from_has (ship false 3) (three modes attempts).jobs (inr (inr (inl refl)));
-  its_group = refl;
-  of_project = (of_ref 3 (codes "c"), contains_from_has (of_ref 3 (codes "c")) (three modes attempts).pipelines (inr (inr (inl refl))), refl, refl);
-}
+second_in : (modes : List GroupMode) → HasGroup (three modes []) 1 (codes "prod") (ship false 2)
+second_in modes = in_group 2 (codes "b") modes [] (inr (inl refl)) (inr (inl refl))
 
 pub returns-clause-lacks_tag : goal.returns-clause-lacks_tag
 returns-clause-lacks_tag c =
@@ -54,17 +46,17 @@ returns-clause-paused c = why.paused refl
 pub returns-clause-held : goal.returns-clause-held
 returns-clause-held c =
     let attempts = third_tried Live in
-    why.waits 1 (codes "prod") (first_in [] attempts) (why.held (ship false 3) (tried 1 3 Live) (third_in [] attempts) (contains_from_has (tried 1 3 Live) attempts (inl refl)) refl refl)
+    why.waits 1 (codes "prod") (first_in [] attempts) (why.held (ship false 3) (tried 1 3 Live) (in_group 3 (codes "c") [] attempts (inr (inr (inl refl))) (inr (inr (inl refl)))) (contains_from_has (tried 1 3 Live) attempts (inl refl)) refl refl)
 
 pub returns-clause-newest_first : goal.returns-clause-newest_first
 returns-clause-newest_first c =
     let modes = prod_in 1 NewestReadyFirst in
-    why.waits 1 (codes "prod") (first_in modes []) (why.newer_first (ship false 2) (second_in modes []) refl (omega arith) refl)
+    why.waits 1 (codes "prod") (first_in modes []) (why.newer_first (ship false 2) (second_in modes) refl (omega arith) refl)
 
 pub returns-clause-oldest_first : goal.returns-clause-oldest_first
 returns-clause-oldest_first c =
     let modes = prod_in 1 OldestFirst in
-    why.waits 1 (codes "prod") (second_in modes []) (why.older_first (ship false 1) (first_in modes []) refl (omega arith) (inr refl))
+    why.waits 1 (codes "prod") (second_in modes) (why.older_first (ship false 1) (first_in modes []) refl (omega arith) (inr refl))
 
 pub returns-clause-unordered : goal.returns-clause-unordered
 returns-clause-unordered c = λ not. none not
