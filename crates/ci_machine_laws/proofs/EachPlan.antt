@@ -157,18 +157,23 @@ abbrev Found : State → Result Job Code → Type 0
 Found s (Ok job) = Has job s.jobs
 Found s (Err code) = IsMachineCode code
 
-found_within : (s : State) (job : Option Job) → ((j : Job) → job ≡ Some j → Has j s.jobs) → (pipeline : Option Pipeline) (project : ℕ) → Found s (job_within job pipeline project)
-found_within s None has pipeline project = tt
-found_within s (Some job) has None project = tt
-found_within s (Some job) has (Some pipeline) project = cond_both (pipeline.project == project) (Ok job) (Err M3) (Found s) (λ _. has job refl) (λ _. tt)
+-- a query names a job, or is refused
+within : (Q : Result Job Code → Type 0) (job : Option Job) → ((j : Job) → job ≡ Some j → Q (Ok j)) → ((c : Code) → IsMachineCode c → Q (Err c)) → (pipeline : Option Pipeline) (project : ℕ) → Q (job_within job pipeline project)
+within Q None fine refused pipeline project = refused M3 tt
+within Q (Some job) fine refused None project = refused M3 tt
+within Q (Some job) fine refused (Some pipeline) project = cond_both (pipeline.project == project) (Ok job) (Err M3) Q (λ _. fine job refl) (λ _. refused M3 tt)
+
+asked : (Q : Result Job Code → Type 0) (job : Option Job) → ((j : Job) → job ≡ Some j → Q (Ok j)) → ((c : Code) → IsMachineCode c → Q (Err c)) → (project : Option Project) (pipeline : Option Pipeline) (query : JobQuery)
+    → Q (asked_job project job pipeline query)
+asked Q job fine refused None pipeline query = refused M1 tt
+asked Q job fine refused (Some project) pipeline query =
+    cond_both (project.id == query.project) (job_within job pipeline project.id) (Err M2) Q (λ _. within Q job fine refused pipeline project.id) (λ _. refused M2 tt)
+
+job_at_has : (s : State) (n : ℕ) (j : Job) → job_at s n ≡ Some j → Has j s.jobs
+job_at_has s n j e = (has_find (λ (w : Job). w.id == n) j s.jobs e).0
 
 found_by : (s : State) (query : JobQuery) (project : Option Project) → Found s (asked_job project (job_at s query.job) (pipeline_of s (job_at s query.job)) query)
-found_by s query None = tt
-found_by s query (Some project) =
-    let job = job_at s query.job in
-    cond_both (project.id == query.project) (job_within job (pipeline_of s job) project.id) (Err M2) (Found s)
-    (λ _. found_within s job (λ j e. (has_find (λ (w : Job). w.id == query.job) j s.jobs e).0) (pipeline_of s job) project.id)
-    (λ _. tt)
+found_by s query project = asked (Found s) (job_at s query.job) (job_at_has s query.job) (λ c m. m) project (pipeline_of s (job_at s query.job)) query
 
 -- a pipeline that was asked for, or a code that refuses the request
 abbrev IsPipeline : Result Pipeline Code → Type 0
@@ -237,7 +242,7 @@ pipeline_in None project = tt
 pipeline_in (Some p) project = cond_both (p.project == project) (Ok p) (Err M3) IsPipeline (λ _. tt) (λ _. tt)
 
 job_in : (s : State) (n project : ℕ) → Found s (job_within (job_at s n) (pipeline_of s (job_at s n)) project)
-job_in s n project = found_within s (job_at s n) (λ j e. (has_find (λ (w : Job). w.id == n) j s.jobs e).0) (pipeline_of s (job_at s n)) project
+job_in s n project = within (Found s) (job_at s n) (job_at_has s n) (λ c m. m) (pipeline_of s (job_at s n)) project
 
 is_told : (s : State) (board : List BoardRow) (named : ℕ) (r : Result Project Code) → Asked s named r → (what : Subject) → IsTold (read_of s board r what)
 is_told s board named (Err code) asked what = asked
@@ -361,18 +366,6 @@ module _ (s : State) (board : List BoardRow) (request : Request) (P : Plan → T
   prunes before asks None found = each.nothing
   prunes before asks (Some p) found = each.pruned p before asks found
 
--- a query names a job, or is refused
-within : (Q : Result Job Code → Type 0) → ((j : Job) → Q (Ok j)) → ((c : Code) → IsMachineCode c → Q (Err c)) → (job : Option Job) (pipeline : Option Pipeline) (project : ℕ) → Q (job_within job pipeline project)
-within Q fine refused None pipeline project = refused M3 tt
-within Q fine refused (Some job) None project = refused M3 tt
-within Q fine refused (Some job) (Some pipeline) project = cond_both (pipeline.project == project) (Ok job) (Err M3) Q (λ _. fine job) (λ _. refused M3 tt)
-
-asked : (Q : Result Job Code → Type 0) → ((j : Job) → Q (Ok j)) → ((c : Code) → IsMachineCode c → Q (Err c)) → (project : Option Project) (job : Option Job) (pipeline : Option Pipeline) (query : JobQuery)
-    → Q (asked_job project job pipeline query)
-asked Q fine refused None job pipeline query = refused M1 tt
-asked Q fine refused (Some project) job pipeline query =
-    cond_both (project.id == query.project) (job_within job pipeline project.id) (Err M2) Q (λ _. within Q fine refused job pipeline project.id) (λ _. refused M2 tt)
-
 pub does : (s : State) (board : List BoardRow) (P : Plan → Type 0) (request : Request) → Each s board request P → (now : ℕ) (seed : Seed) (plan : Plan) → Does s board request now seed plan → P plan
 does s board P (AddProject name) each now seed plan is = subst P (sym is) (projects s board (AddProject name) P each name refl seed)
 does s board P (AddRunner new) each now seed plan is = subst P (sym is) (runners s board (AddRunner new) P each (project_named s new.project) new refl seed)
@@ -398,11 +391,11 @@ does s board P (ShowJob query) each now seed plan is =
     let job = job_at s query.job in
     let status = status_for board query.job in
     let claims = claims_in s board (pipeline_or_none job) in
-    subst P (sym is) (asked (λ r. P (shown claims query.project r status)) (λ j. each.shown claims query.project j status) (λ c m. each.refused c m) (project_with s query.token) job (pipeline_of s job) query)
+    subst P (sym is) (asked (λ r. P (shown claims query.project r status)) job (λ j _. each.shown claims query.project j status) each.refused (project_with s query.token) (pipeline_of s job) query)
 does s board P (ShowTrace query) each now seed plan is =
     let job = job_at s query.job in
     let trace = trace_if_any s (last_attempt s query.job) in
-    subst P (sym is) (asked (λ r. P (traced r trace)) (λ j. each.traced trace) (λ c m. each.refused c m) (project_with s query.token) job (pipeline_of s job) query)
+    subst P (sym is) (asked (λ r. P (traced r trace)) job (λ _ _. each.traced trace) each.refused (project_with s query.token) (pipeline_of s job) query)
 does s board P (Read query) each now seed plan is = subst P (sym is) (of_read P each.refused each.read s board query)
 does s board P (Play query) each now seed plan is = acts_on s board P each.refused each.acted play (plays s) is_playable M10 tt query plan is
 does s board P (CancelJob query) each now seed plan is =

@@ -57,15 +57,15 @@ grants_empty = record {
   fresh = λ n l. refl;
 }
 
--- a line that grants another number
-longer : (p : Past) (h : List Past) (a : Attempt) → grants a.id p ≡ false → WasGiven h a → WasGiven (p ∷ h) a
-longer p h a isnt w = record {
+-- a line that grants another number, where the attempt has its number, job and runner still
+longer : (p : Past) (h : List Past) (a b : Attempt) → grants b.id p ≡ false → a.id ≡ b.id → a.job ≡ b.job → a.runner ≡ b.runner → WasGiven h a → WasGiven (p ∷ h) b
+longer p h a b isnt same_id same_job same_runner w = record {
   line = w.line;
-  once = cond-false (grants a.id p) (p ∷ filter (grants a.id) h) (filter (grants a.id) h) isnt ∙ w.once;
+  once = cond-false (grants b.id p) (p ∷ filter (grants b.id) h) (filter (grants b.id) h) isnt ∙ subst (λ n. filter (grants n) h ≡ w.line ∷ []) same_id w.once;
   runner = w.runner;
   job = w.job;
-  its_runner = w.its_runner;
-  its_job = w.its_job;
+  its_runner = w.its_runner ∙ same_runner;
+  its_job = w.its_job ∙ same_job;
   eligible = w.eligible;
   asked = w.asked;
 }
@@ -123,16 +123,7 @@ stand h s t p i isnt stood rise f r = record {
       let v = stood b k in
       let w = stood c l in
       subst (λ n. n ≤ b.id) w.id (subst (λ n. w.old.id ≤ n) v.id (i.is_last v.old w.old v.has w.has (v.live lv) (v.job ∙ (j ∙ sym w.job))));
-  granted = λ b k. let w = stood b k in let g = i.granted w.old w.has in longer p h b (isnt b.id) (record {
-    line = g.line;
-    once = subst (λ n. filter (grants n) h ≡ g.line ∷ []) w.id g.once;
-    runner = g.runner;
-    job = g.job;
-    its_runner = g.its_runner ∙ w.runner;
-    its_job = g.its_job ∙ w.job;
-    eligible = g.eligible;
-    asked = g.asked;
-  });
+  granted = λ b k. let w = stood b k in longer p h w.old b (isnt b.id) w.id w.job w.runner (i.granted w.old w.has);
   fresh = λ n l. cond-false (grants n p) (p ∷ filter (grants n) h) (filter (grants n) h) (isnt n) ∙ i.fresh n (subst (λ m. m ≤ n) f l);
 }
 
@@ -168,7 +159,7 @@ gives h s t p x i at_next free grant_of runner job its_runner its_job eligible a
             eligible = eligible;
             asked = asked;
           }))
-          (λ m. longer p h b (grant_of b.id ∙ ne_eqb x.id b.id (λ u. let z : b.id < s.next.attempt = i.below b m in absurd (omega arith))) (i.granted b m))
+          (λ m. longer p h b b (grant_of b.id ∙ ne_eqb x.id b.id (λ u. let z : b.id < s.next.attempt = i.below b m in absurd (omega arith))) refl refl refl (i.granted b m))
           (cases b k);
       fresh = λ n l. let m : s.next.attempt + 1 ≤ n = subst (λ w. w ≤ n) f l in
           cond-false (grants n p) (p ∷ filter (grants n) h) (filter (grants n) h) (grant_of n ∙ ne_eqb x.id n (λ u. absurd (omega arith)))

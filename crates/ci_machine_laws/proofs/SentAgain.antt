@@ -223,36 +223,21 @@ module _ (s : State) (rise : Rising (λ (a : Attempt). a.id) 0 s.attempts) (u : 
       (ends a has.0 (eqb-true a.id u.attempt has.1) token (finished a limit now final.state) (λ state. finishes a limit now final.state state)))
       (λ _. inl (refl, refl))
 
-  ended_twice : Twice (λ t. update_job (lease_at t u.attempt) u now) s (update_job (lease_at s u.attempt) u now)
-  ended_twice =
+  ended_twice : Rising (λ (a : Attempt). a.id) 0 (applied (update_job (lease_at s u.attempt) u now).1 s).attempts → Twice (λ t. update_job (lease_at t u.attempt) u now) s (update_job (lease_at s u.attempt) u now)
+  ended_twice still_rises =
       let plan = update_job (lease_at s u.attempt) u now in
       let t = applied plan.1 s in
       ⊎_elim
       (λ k. rests (λ t. update_job (lease_at t u.attempt) u now) s plan refl k.0)
-      (λ k. ap (λ (p : Plan). applied p.1 t) (settled_again t (still_rises (attempt_at s u.attempt)) u plan.0 k now))
+      (λ k. ap (λ (p : Plan). applied p.1 t) (settled_again t still_rises u plan.0 k now))
       (reports (attempt_at s u.attempt) refl)
-    where
-      after_end : (a : Attempt) (r : Result AttemptState LeaseFault) → Rising (λ (b : Attempt). b.id) 0 (applied (ended a r).1 s).attempts
-      after_end a (Err fault) = rise
-      after_end a (Ok state) =
-          let x : Attempt = record a { state = state } in
-          cond_both (is_live a) (Put (Record.Attempt x) ∷ []) [] (λ cs. Rising (λ (b : Attempt). b.id) 0 (applied cs s).attempts)
-          (λ _. rising_put (λ (b : Attempt). b.id) x 0 s.attempts rise (omega arith)) (λ _. rise)
-
-      still_rises : (o : Option Attempt) → Rising (λ (b : Attempt). b.id) 0 (applied (update_job (option_map (lease_of s) o) u now).1 s).attempts
-      still_rises None = rise
-      still_rises (Some a) =
-          let l = lease_of s a in
-          cond_both (bytes_eq a.token u.token) (reported l u.report now) (refused M5) (λ (p : Plan). Rising (λ (b : Attempt). b.id) 0 (applied p.1 s).attempts)
-          (λ _. subst (λ (p : Plan). Rising (λ (b : Attempt). b.id) 0 (applied p.1 s).attempts) (sym (final.plan l now)) (after_end a (finished a l.limit now final.state)))
-          (λ _. rise)
 
 -- a word of a runner that is said twice at one moment
-updates_twice : (s : State) → Rising (λ (a : Attempt). a.id) 0 s.attempts → (u : JobUpdate) (now : ℕ) (r : Report)
+updates_twice : (s : State) → Rising (λ (a : Attempt). a.id) 0 s.attempts → (u : JobUpdate) (now : ℕ) (r : Report) → Rising (λ (a : Attempt). a.id) 0 (applied (update_job (lease_at s u.attempt) (record u { report = r }) now).1 s).attempts
     → Twice (λ t. update_job (lease_at t u.attempt) (record u { report = r }) now) s (update_job (lease_at s u.attempt) (record u { report = r }) now)
-updates_twice s rise u now Report.Running = runs_twice s rise u now (attempt_at s u.attempt) refl
-updates_twice s rise u now (Report.Success exit) = ended_twice s rise (record u { report = Report.Success exit }) (final_of (Report.Success exit) refl) now
-updates_twice s rise u now (Report.Failed cause exit) = ended_twice s rise (record u { report = Report.Failed cause exit }) (final_of (Report.Failed cause exit) refl) now
+updates_twice s rise u now Report.Running still = runs_twice s rise u now (attempt_at s u.attempt) refl
+updates_twice s rise u now (Report.Success exit) still = ended_twice s rise (record u { report = Report.Success exit }) (final_of (Report.Success exit) refl) now still
+updates_twice s rise u now (Report.Failed cause exit) still = ended_twice s rise (record u { report = Report.Failed cause exit }) (final_of (Report.Failed cause exit) refl) now still
 
 -- ---- a runner sends a piece of a trace
 
@@ -334,19 +319,21 @@ both s t u f one two is_one is_two to_t to_u same =
     to_u ∙ (ap (λ (p : Plan). applied p.1 t) is_two ∙ subst (λ w. applied (f w).1 w ≡ w) (sym here) same)
 
 -- two steps of the same of a runner at one moment lead to where the first of them does
-twice : (s t u : State) (e : Event) (now : ℕ) (first again : Seed) (a b : Answer) → Rising (λ (w : Attempt). w.id) 0 s.attempts → is_of_runner e ≡ true → Step s e now first a t → Step t e now again b u → u ≡ t
-twice s t u (Event.Request (UpdateJob update)) now first again (Answer.Reply reply) (Answer.Reply then) rise is one two =
+twice : (s t u : State) (e : Event) (now : ℕ) (first again : Seed) (a b : Answer) → Rising (λ (w : Attempt). w.id) 0 s.attempts → Rising (λ (w : Attempt). w.id) 0 t.attempts → is_of_runner e ≡ true → Step s e now first a t → Step t e now again b u → u ≡ t
+twice s t u (Event.Request (UpdateJob update)) now first again (Answer.Reply reply) (Answer.Reply then) rise still is one two =
     let f : State → Plan = λ w. update_job (lease_at w update.attempt) update now in
-    both s t u f (reply, one.changes) (then, two.changes) one.happens two.happens one.state two.state (updates_twice s rise update now update.report)
-twice s t u (Event.Request (AppendTrace part)) now first again (Answer.Reply reply) (Answer.Reply then) rise is one two =
+    both s t u f (reply, one.changes) (then, two.changes) one.happens two.happens one.state two.state (updates_twice s rise update now update.report (subst (λ (w : State). Rising (λ (x : Attempt). x.id) 0 w.attempts) (one.state ∙ ap (λ (p : Plan). applied p.1 s) one.happens) still))
+twice s t u (Event.Request (AppendTrace part)) now first again (Answer.Reply reply) (Answer.Reply then) rise still is one two =
     let f : State → Plan = λ w. append_trace (lease_at w part.attempt) (length (trace_of w part.attempt)) part now in
     both s t u f (reply, one.changes) (then, two.changes) one.happens two.happens one.state two.state (appends_twice s rise part now (attempt_at s part.attempt) refl)
-twice s t u (Event.Request request) now first again (Answer.Swept swept) b rise is one two = absurd one.happens
-twice s t u (Event.Request request) now first again a (Answer.Swept swept) rise is one two = absurd two.happens
-twice s t u e now first again a b rise is one two = absurd (false≢true is)
+twice s t u (Event.Request request) now first again (Answer.Swept swept) b rise still is one two = absurd one.happens
+twice s t u (Event.Request request) now first again a (Answer.Swept swept) rise still is one two = absurd two.happens
+twice s t u e now first again a b rise still is one two = absurd (false≢true is)
 
 pub twice_reached : (s t u : State) (e : Event) (now : ℕ) (first again : Seed) (a b : Answer) → IsReached s → is_of_runner e ≡ true → Step s e now first a t → Step t e now again b u → u ≡ t
-twice_reached s t u e now first again a b is of one two = twice s t u e now first again a b (reached is.0 s is.1).grants.rise of one two
+twice_reached s t u e now first again a b is of one two =
+    let line : Past = record { before = s; event = e; now = now; seed = first; answer = a } in
+    twice s t u e now first again a b (reached is.0 s is.1).grants.rise (reached (line ∷ is.0) t (is.1, one)).grants.rise of one two
 
 -- ---- over a history
 
@@ -356,7 +343,7 @@ just_sent (q ∷ h) s l t e now seed a step was =
     ⊎_elim
     (λ is.
     let one : Step q.before e now q.seed q.answer s = subst (λ n. Step q.before e n q.seed q.answer s) is.at_once (subst (λ w. Step q.before w q.now q.seed q.answer s) is.same l.1) in
-    twice q.before s t e now q.seed seed q.answer a (reached h q.before l.0).grants.rise is.of_runner one step)
+    twice q.before s t e now q.seed seed q.answer a (reached h q.before l.0).grants.rise (reached (q ∷ h) s l).grants.rise is.of_runner one step)
     (λ w. just_sent h s (subst (Leads h) w.0 l.0) t e now seed a step w.1)
     was
 
