@@ -1,6 +1,8 @@
 -- Worked examples that are computed: what unfolds for them, and boards, whose rows are right if they come out of themselves.
-use Rattle.std.proofs.Common.{◌≡◌, ℕ, zero, suc, ◌+◌, ◌<◌, ◌==◌, List, [], ◌∷◌, length, map, count_by, slice_index_or, sym, ap, subst, ◌∙◌, inl, inr, arith, eqb-true, refl}
+use Rattle.std.proofs.Common.{◌≡◌, ℕ, ◌<◌, ◌==◌, List, [], ◌∷◌, length, map, count_by, sym, ap, subst, ◌∙◌, inl, inr, arith, eqb-true, refl}
+use Rattle.std.specs.List.{range_with_len}
 use Rattle.std.proofs.lemmas.List.{length-map}
+use Rattle.std.proofs.lemmas.List.FromFn.{get_or-map-range_with_len}
 unfoldable pub use Rattle.std.specs.Fmt.{digits}
 unfoldable pub use Rattle.serde_json.proofs.OnLiterals.{serde_json_on_literals}
 unfoldable pub use Rattle.hex.proofs.OnLiterals.{hex_on_literals}
@@ -10,16 +12,6 @@ use Rattle.ci_machine_steps.specs.Prelude.{Facts, Row, Effect, is_open, is_fail,
 use Rattle.ci_machine_steps.specs.Prelude.{graph_of, facts_of, rows_of, AreBoard}
 use Rattle.ci_board.specs.Prelude.{row_at}
 use Rattle.ci_machine.proofs.Keyed.{Has, has_filter}
-
--- what a function gives at each place from k on, of as many as the list has
-abbrev at_places : {A B : Type 0} → (ℕ → A) → ℕ → List B → List A
-at_places f k [] = []
-at_places f k (x ∷ xs) = f k ∷ at_places f (k + 1) xs
-
-at_place : {A B : Type 0} (f : ℕ → A) (k : ℕ) (xs : List B) (none : A) (i : ℕ) → i < length xs → slice_index_or (at_places f k xs) i none ≡ f (k + i)
-at_place f k [] none i l = absurd (omega arith)
-at_place f k (x ∷ xs) none zero l = ap f (let e : k ≡ k + 0 = omega arith in e)
-at_place f k (x ∷ xs) none (suc i) l = at_place f (k + 1) xs none i (omega arith) ∙ ap f (let e : k + 1 + i ≡ k + suc i = omega arith in e)
 
 first_of_some : {A : Type 0} (xs : List A) → 0 < length xs → (x : A) × Has x xs
 first_of_some [] l = absurd (omega arith)
@@ -38,7 +30,7 @@ row_again g facts rows j =
 
 -- the rows of a pipeline's jobs, as they come out of those of the board
 abbrev pub rows_again : State → List BoardRow → ℕ → List Row
-rows_again s board p = at_places (row_again (graph_of s p) (facts_of s p) (rows_of s board p)) 0 (graph_of s p).parts
+rows_again s board p = map (row_again (graph_of s p) (facts_of s p) (rows_of s board p)) (range_with_len 0 (length (graph_of s p).parts))
 
 -- a board is right if each pipeline's rows come out as they stand there
 pub computed : (s : State) (board : List BoardRow) → map (λ r. r.job) board ≡ map (λ j. j.id) s.jobs → map (λ j. rows_again s board j.pipeline) s.jobs ≡ map (λ j. rows_of s board j.pipeline) s.jobs → AreBoard s board
@@ -56,5 +48,4 @@ computed s board keys same = record {
       let of = has_filter (λ (j : Job). j.pipeline == p) first.0 s.jobs first.1 in
       let rows : rows_again s board p ≡ rows_of s board p
       = subst (λ n. rows_again s board n ≡ rows_of s board n) (eqb-true first.0.pipeline p of.1) (equal_at (λ (j : Job). rows_again s board j.pipeline) (λ (j : Job). rows_of s board j.pipeline) first.0 s.jobs same of.0) in
-      let place : 0 + i ≡ i = omega arith in
-      sym (ap (λ (rs : List Row). row_at rs i) rows) ∙ at_place _ 0 (graph_of s p).parts no_row i l ∙ ap (row_again (graph_of s p) (facts_of s p) (rows_of s board p)) place
+      sym (ap (λ (rs : List Row). row_at rs i) rows) ∙ get_or-map-range_with_len (row_again (graph_of s p) (facts_of s p) (rows_of s board p)) 0 (length (graph_of s p).parts) i i no_row l (omega arith)

@@ -1,9 +1,9 @@
 -- Each resource group of a project is held by at most one live attempt, in every state that a history leads to.
-use Rattle.std.proofs.Common.{◌≡◌, ◌⊎◌, ℕ, ◌==◌, ◌&&◌, ◌||◌, not, Bool, true, false, List, [], ◌∷◌, ◌++◌, map, flat_map, Option, Some, None, option_map, refl, sym, ap}
+use Rattle.std.proofs.Common.{◌≡◌, ◌⊎◌, ℕ, ◌==◌, ◌&&◌, ◌||◌, not, Bool, true, false, List, [], ◌∷◌, map, flat_map, Option, Some, None, option_map, refl, sym, ap}
 use Rattle.std.proofs.Common.{subst, ◌∙◌, inl, inr, ⊎_elim, eqb-true, ne_eqb}
 use Rattle.std.specs.List.{list_any}
 use Rattle.std.specs.Str.{bytes_eq}
-use Rattle.std.proofs.lemmas.Bool.{cases_Bool, both_ways, false≢true, and_parts}
+use Rattle.std.proofs.lemmas.Bool.{both_ways, false≢true, and_parts}
 use Rattle.std.proofs.lemmas.Slice.Eq.{bytes_eq-Decides}
 use Rattle.ci_machine_steps.specs.Prelude.{BoardRow, Holder, Pipeline, Job, Attempt, QueuedJob, Event}
 use Rattle.ci_machine_steps.specs.Prelude.{State, applied, attempt_cmp, jobs_of, is_live, holds, is_free}
@@ -12,6 +12,7 @@ use Rattle.ci_machine_steps.specs.Prelude.{is_job_among, without_pipeline, queue
 use Rattle.ci_machine_steps.specs.Prelude.{is_in_group, job_at, pipeline_at, project_or_none, queued, live_attempts, Past}
 use Rattle.ci_machine_steps.specs.Prelude.{Leads, job_for_good, OneLeaseInGroup}
 use Rattle.ci_machine.proofs.Keyed.{not_true, Has, Rising, has_put, filter_has, find_has, count_one, Named, rising_filter}
+use Rattle.ci_machine.proofs.Tests.{has_any, any_joined}
 use Rattle.ci_machine.proofs.Filters.{find_implied}
 use Rattle.ci_machine.proofs.Claims.{free_held, free_not_held}
 use Rattle.ci_machine_steps.proofs.Pruned.{job_left, attempt_was}
@@ -27,19 +28,8 @@ job_id j = j.id
 
 -- ---- lists
 
-any_left : {A : Type 0} (p : A → Bool) (xs ys : List A) → list_any p xs ≡ true → list_any p (xs ++ ys) ≡ true
-any_left p [] ys e = absurd (false≢true e)
-any_left p (x ∷ xs) ys e =
-    ⊎_elim (λ t. ap (λ b. b || list_any p (xs ++ ys)) t) (λ f. ap (λ b. b || list_any p (xs ++ ys)) f ∙ any_left p xs ys (sym (ap (λ b. b || list_any p xs) f) ∙ e)) (cases_Bool (p x))
-
-any_right : {A : Type 0} (p : A → Bool) (xs ys : List A) → list_any p ys ≡ true → list_any p (xs ++ ys) ≡ true
-any_right p [] ys e = e
-any_right p (x ∷ xs) ys e = ⊎_elim (λ t. ap (λ b. b || list_any p (xs ++ ys)) t) (λ f. ap (λ b. b || list_any p (xs ++ ys)) f ∙ any_right p xs ys e) (cases_Bool (p x))
-
 any_flat : {A B : Type 0} (p : B → Bool) (f : A → List B) (x : A) (xs : List A) → Has x xs → list_any p (f x) ≡ true → list_any p (flat_map f xs) ≡ true
-any_flat p f x [] k e = absurd k
-any_flat p f x (y ∷ ys) k e =
-    ⊎_elim (λ q. any_left p (f y) (flat_map f ys) (subst (λ (z : _). list_any p (f z) ≡ true) q e)) (λ m. any_right p (f y) (flat_map f ys) (any_flat p f x ys m e)) k
+any_flat p f x xs k e = sym (any_joined p f xs) ∙ has_any (λ y. list_any p (f y)) x xs k e
 
 pub only_one : (b : Bool) → (b || false) ≡ true → b ≡ true
 only_one true e = refl

@@ -49,7 +49,7 @@ all_less : {A : Type 0} (cmp : A → A → Ordering) (x : A) (xs : List A) → (
 all_less cmp x [] h = tt
 all_less cmp x (y ∷ ys) h = (h y (inl refl), all_less cmp x ys (λ w k. h w (inr k)))
 
-ascend : {A : Type 0} (cmp : A → A → Ordering) (xs : List A) → Ordered cmp xs → IsStrictlySortedBy cmp xs
+pub ascend : {A : Type 0} (cmp : A → A → Ordering) (xs : List A) → Ordered cmp xs → IsStrictlySortedBy cmp xs
 unfolding IsStrictlySortedBy
 ascend cmp [] o = tt
 ascend cmp (x ∷ xs) o = (all_less cmp x xs o.0, ascend cmp xs o.1)

@@ -1,9 +1,9 @@
 -- The statuses of each reached state are one assignment.
 use Rattle.std.proofs.Common.{◌≡◌, ◌⊎◌, ℕ, zero, suc, ◌+◌, ◌^◌, ◌<◌, ◌≤◌, Bool, true, cond, ◌==◌, ◌||◌, nat_lt, List, [], ◌∷◌, length, map, filter, count_by, All, Contains}
-use Rattle.std.proofs.Common.{slice_index_or, refl, sym, ap, subst, ◌∙◌, inl, inr, ⊎_elim, arith, eq-eqb, eqb-true, lt-ltb}
-use Rattle.std.specs.List.{range_with_len}
+use Rattle.std.proofs.Common.{refl, sym, ap, subst, ◌∙◌, inl, inr, ⊎_elim, arith, eq-eqb, eqb-true, lt-ltb}
 use Rattle.std.proofs.lemmas.Bool.{cases_Bool, cases_lt, false≢true, cond-true, cond-false, le-ltb}
 use Rattle.std.proofs.lemmas.List.{get_or-map, length-map}
+use Rattle.std.proofs.lemmas.List.FromFn.{get_or-map-range_with_len}
 use Rattle.std.proofs.lemmas.List.Sums.{sum_by-cons}
 use Rattle.ci_machine.specs.Prelude.{number_at, list_at, times, once, is_among, distinct, IsOrder, IsStuck, AreWithin, IsWalk, IsAcyclic, firsts_of, has_pair, JobGraph, IsJobGraph}
 use Rattle.ci_machine.specs.Prelude.{part_at, predecessors_of}
@@ -179,22 +179,9 @@ OneAssignment =
     (g : JobGraph) → IsJobGraph g → (facts : List Facts) → length facts ≡ length g.parts
     → ((rows : List Row) × AreRows g facts rows) × ((a b : ℕ → Status) → IsAssignment g facts a → IsAssignment g facts b → (i : ℕ) → i < length g.parts → a i ≡ b i)
 
-range_long : (low n : ℕ) → length (range_with_len low n) ≡ n
-range_long low zero = refl
-range_long low (suc n) = ap suc (range_long (low + 1) n)
-
-range_at : (low n k : ℕ) → k < n → slice_index_or (range_with_len low n) k 0 ≡ low + k
-range_at low zero k l = absurd (omega arith)
-range_at low (suc n) zero l = omega arith
-range_at low (suc n) (suc k) l = let e : slice_index_or (range_with_len (low + 1) n) k 0 ≡ low + 1 + k = range_at (low + 1) n k (omega arith) in omega arith
-
 -- the predecessors that a state's graph has of a job are those of the pairs
 exact_in : (pairs : List (ℕ × ℕ)) (n j : ℕ) → j < n → list_at (predecessors_by pairs n) j ≡ distinct (firsts_of pairs j)
-exact_in pairs n j l =
-    let one : ℕ → List ℕ = λ place. distinct (firsts_of pairs place) in
-    let long : length (range_with_len 0 n) ≡ n = range_long 0 n in
-    let at : slice_index_or (range_with_len 0 n) j 0 ≡ j = range_at 0 n j l ∙ (let z : 0 + j ≡ j = omega arith in z) in
-    get_or-map one (range_with_len 0 n) j 0 [] (omega arith) ∙ ap one at
+exact_in pairs n j l = get_or-map-range_with_len (λ place. distinct (firsts_of pairs place)) 0 n j j [] l (omega arith)
 
 -- a predecessor is one of the pairs
 pred_of_pair : (pairs : List (ℕ × ℕ)) (i j : ℕ) (predecessors : List ℕ) → predecessors ≡ distinct (firsts_of pairs j) → 0 < times i predecessors → Contains pairs (i, j)

@@ -1,18 +1,16 @@
 -- The resource groups that are told of a project are those that have a process mode or are held.
 use Rattle.std.proofs.Common.{◌≡◌, ◌⊎◌, ℕ, true, not, ◌==◌, ◌&&◌, List, [], ◌∷◌, map, find, flat_map, Option, Some, None, option_map, option_and_then, Result, Ok, Err, nat_cmp}
-use Rattle.std.proofs.Common.{is_eq, is_lt, Ordering, Less, refl, sym, ap, subst, ◌∙◌, inl, inr, ⊎_elim, eqb-true, eq-eqb}
-use Rattle.std.specs.List.{AllByRecursion}
-use Rattle.std.specs.List.Sorted.{IsStrictlySortedBy}
+use Rattle.std.proofs.Common.{is_eq, Ordering, Less, refl, sym, ap, subst, ◌∙◌, inl, inr, ⊎_elim, eqb-true, eq-eqb}
 use Rattle.std.specs.Str.{bytes_eq}
 use Rattle.std.specs.Ordering.{ordering_then}
 use Rattle.std.specs.Cmp.Lexicographic.{slice_cmp}
 use Rattle.std.specs.Cmp.{Equal-is}
-use Rattle.std.proofs.lemmas.Bool.{cond_both, cases_Bool, both_ways, and_parts}
+use Rattle.std.proofs.lemmas.Bool.{cases_Bool, both_ways, and_parts}
 use Rattle.std.proofs.lemmas.Cmp.{nat_list_cmp_total}
 use Rattle.std.proofs.lemmas.Map.Text.{is_eq-slice_cmp}
 use Rattle.std.proofs.lemmas.Slice.Eq.{bytes_eq-Decides}
 use Rattle.ci_machine_steps.specs.Prelude.{Project, Attempt, BoardRow, GroupMode, Holder, QueuedJob, Event, Read, ReadQuery, Subject}
-use Rattle.ci_machine_steps.specs.Prelude.{Seed, Code, Reply, Answer, State, mode_cmp, placed, put, attempt_at, live_attempts}
+use Rattle.ci_machine_steps.specs.Prelude.{Seed, Code, Reply, Answer, State, mode_cmp, put, attempt_at, live_attempts}
 use Rattle.ci_machine_steps.specs.Prelude.{is_live, holds, group_held, held_by, held_of, queued_at, holders, holders_in, modes_in, Plan, with_names, group_names, read, Step}
 use Rattle.ci_machine_steps.specs.Prelude.{IsReached}
 use Rattle.ci_machine.proofs.Keyed.{Has, Rising, has_put, put_has, has_filter, filter_has, has_map, map_has, has_find, find_has, All-from_has, contains_from_has, has_from_contains, equal}
@@ -22,7 +20,8 @@ use Rattle.ci_machine_steps.proofs.Variables.{Ordered, filter_ordered, put_order
 use Rattle.ci_machine_steps.proofs.Sound.{rising_from_ascend}
 use Rattle.ci_machine_laws.specs.Reads.{IsHeldBy, IsModeOf, AreGroups, IsHolder, TellsGroups}
 use Rattle.ci_machine_laws.proofs.EachPlan.{Asked, of_asked, is_asked}
-use Rattle.ci_machine_laws.proofs.Numbers.{sound_reached, in_order}
+use Rattle.ci_machine_laws.proofs.Numbers.{sound_reached, in_order, ascend}
+use Rattle.ci_machine_laws.proofs.Linked.{has_self}
 use Rattle.ci_machine_laws.proofs.Sweeps.{find_none}
 
 -- ---- names, each once
@@ -30,23 +29,10 @@ use Rattle.ci_machine_laws.proofs.Sweeps.{find_none}
 abbrev text_cmp : List ℕ → List ℕ → Ordering
 text_cmp a b = slice_cmp nat_cmp a b
 
-all_below : (z : List ℕ) (zs : List (List ℕ)) → ((y : List ℕ) → Has y zs → text_cmp z y ≡ Less) → AllByRecursion (λ y. text_cmp z y ≡ Less) zs
-all_below z [] h = tt
-all_below z (y ∷ ys) h = (h y (inl refl), all_below z ys (λ x k. h x (inr k)))
-
-ascends : (xs : List (List ℕ)) → Ordered text_cmp xs → IsStrictlySortedBy text_cmp xs
-unfolding IsStrictlySortedBy
-ascends [] r = tt
-ascends (z ∷ zs) r = (all_below z zs r.0, ascends zs r.1)
-
-placed_has : {A : Type 0} (cmp : A → A → Ordering) (x : A) (xs : List A) → Has x (placed cmp x xs)
-placed_has cmp x [] = inl refl
-placed_has cmp x (y ∷ ys) = cond_both (is_lt (cmp y x)) (y ∷ placed cmp x ys) (x ∷ y ∷ ys) (λ l. Has x l) (λ _. inr (placed_has cmp x ys)) (λ _. inl refl)
-
 put_still : (x y : List ℕ) (names : List (List ℕ)) → Has y names → Has y (put text_cmp x names)
 put_still x y names k =
     ⊎_elim
-    (λ t. subst (λ w. Has w (put text_cmp x names)) (sym ((bytes_eq-Decides y x).0 (sym (is_eq-slice_cmp y x) ∙ t))) (placed_has text_cmp x _))
+    (λ t. subst (λ w. Has w (put text_cmp x names)) (sym ((bytes_eq-Decides y x).0 (sym (is_eq-slice_cmp y x) ∙ t))) (has_self text_cmp x _))
     (λ f. put_has text_cmp x y names k (ap not f))
     (cases_Bool (is_eq (text_cmp y x)))
 
@@ -67,7 +53,7 @@ names_come : (y : List ℕ) (xs names : List (List ℕ)) → Has y xs → Has y 
 names_come y [] names k = absurd k
 names_come y (x ∷ xs) names k =
     ⊎_elim
-    (λ e. names_still y xs (put text_cmp x names) (subst (λ w. Has w (put text_cmp x names)) (sym e) (placed_has text_cmp x _)))
+    (λ e. names_still y xs (put text_cmp x names) (subst (λ w. Has w (put text_cmp x names)) (sym e) (has_self text_cmp x _)))
     (λ m. names_come y xs (put text_cmp x names) m) k
 
 -- ---- the names of modes
@@ -164,7 +150,7 @@ module _ (s : State) (project : ℕ) where
 
   are_groups : Ordered mode_cmp s.modes → AreGroups s project (group_names s project)
   are_groups o = record {
-    ascend = ascends (group_names s project) (with_ordered held_names mode_names (names_ordered project (modes_in project s.modes)
+    ascend = ascend text_cmp (group_names s project) (with_ordered held_names mode_names (names_ordered project (modes_in project s.modes)
         (λ m k. eqb-true m.project project (has_filter (λ (w : GroupMode). w.project == project) m s.modes k).1)
         (filter_ordered mode_cmp (λ (w : GroupMode). w.project == project) s.modes o)));
     no_others = All-from_has IsOne (group_names s project) is_one;
