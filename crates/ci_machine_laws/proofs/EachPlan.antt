@@ -65,6 +65,16 @@ of_asked s token named = asked_project (project_with s token) named
 pub is_asked : (s : State) (token : List ℕ) (named : ℕ) → Asked s named (of_asked s token named)
 is_asked s token named = asked_is s token named (project_with s token) refl
 
+-- a pipeline that was asked for, or a code that refuses the request
+abbrev IsPipeline : Result Pipeline Code → Type 0
+IsPipeline (Ok p) = Unit {0}
+IsPipeline (Err code) = IsMachineCode code
+
+pipeline_by : (s : State) (named : ℕ) (found : Option Pipeline) (r : Result Project Code) → Asked s named r → IsPipeline (asked_pipeline r found)
+pipeline_by s named found (Err code) asked = asked
+pipeline_by s named None (Ok project) asked = tt
+pipeline_by s named (Some p) (Ok project) asked = cond_both (p.project == project.id) (Ok p) (Err M3) IsPipeline (λ _. tt) (λ _. tt)
+
 abbrev pub given_in : State → NewPipeline → Given
 given_in s new = given_by new (project_variables s new.project)
 
@@ -143,12 +153,9 @@ module _ (s : State) (P : Plan → Type 0) (of_code : (c : Code) → IsMachineCo
 
   -- ---- a pipeline is shown
 
-  shows : (claims : List Claim) (jobs : List Job) (facts : List Facts) (rows : List Row) → ((p : Pipeline) → P (pipeline_shown p claims jobs facts rows)) → (named : ℕ) (found : Option Pipeline) (r : Result Project Code) → Asked s named r
-      → P (show_pipeline (asked_pipeline r found) claims jobs facts rows)
-  shows claims jobs facts rows h named found (Err code) asked = of_code code asked
-  shows claims jobs facts rows h named None (Ok project) asked = of_code M3 tt
-  shows claims jobs facts rows h named (Some p) (Ok project) asked =
-      cond_both (p.project == project.id) (Ok p) (Err M3) (λ r. P (show_pipeline r claims jobs facts rows)) (λ _. h p) (λ _. of_code M3 tt)
+  shows : (claims : List Claim) (jobs : List Job) (facts : List Facts) (rows : List Row) → ((p : Pipeline) → P (pipeline_shown p claims jobs facts rows)) → (r : Result Pipeline Code) → IsPipeline r → P (show_pipeline r claims jobs facts rows)
+  shows claims jobs facts rows h (Err code) found = of_code code found
+  shows claims jobs facts rows h (Ok p) found = h p
 
 -- ---- what a user does to jobs
 
@@ -174,16 +181,6 @@ job_at_has s n j e = (has_find (λ (w : Job). w.id == n) j s.jobs e).0
 
 found_by : (s : State) (query : JobQuery) (project : Option Project) → Found s (asked_job project (job_at s query.job) (pipeline_of s (job_at s query.job)) query)
 found_by s query project = asked (Found s) (job_at s query.job) (job_at_has s query.job) (λ c m. m) project (pipeline_of s (job_at s query.job)) query
-
--- a pipeline that was asked for, or a code that refuses the request
-abbrev IsPipeline : Result Pipeline Code → Type 0
-IsPipeline (Ok p) = Unit {0}
-IsPipeline (Err code) = IsMachineCode code
-
-pipeline_by : (s : State) (named : ℕ) (found : Option Pipeline) (r : Result Project Code) → Asked s named r → IsPipeline (asked_pipeline r found)
-pipeline_by s named found (Err code) asked = asked
-pipeline_by s named None (Ok project) asked = tt
-pipeline_by s named (Some p) (Ok project) asked = cond_both (p.project == project.id) (Ok p) (Err M3) IsPipeline (λ _. tt) (λ _. tt)
 
 module _ (s : State) (board : List BoardRow) (P : Plan → Type 0) (of_code : (c : Code) → IsMachineCode c → P (refused c))
     (of_act : (text : List ℕ) (changes : List RowChange) → IsAct s changes → P (fine (Json text), changes)) where
@@ -383,7 +380,8 @@ does s board P (CreatePipeline new) each now seed plan is = creates s P each.ref
 does s board P (ShowPipeline query) each now seed plan is =
     let n = query.pipeline in
     let claims = claims_in s board n in
-    subst P (sym is) (shows s P each.refused each.faulted claims (jobs_of s n) (facts_of s n) (rows_of s board n) (λ p. each.pipeline_shown p claims (jobs_of s n) (facts_of s n) (rows_of s board n)) query.project (pipeline_at s n) (of_asked s query.token query.project) (is_asked s query.token query.project))
+    subst P (sym is) (shows s P each.refused each.faulted claims (jobs_of s n) (facts_of s n) (rows_of s board n) (λ p. each.pipeline_shown p claims (jobs_of s n) (facts_of s n) (rows_of s board n)) (found_pipeline s query)
+    (pipeline_by s query.project (pipeline_at s n) (of_asked s query.token query.project) (is_asked s query.token query.project)))
 does s board P (AskJob token) each now seed plan is = subst P (sym is) (asks s board (AskJob token) P each token refl now seed (runner_with s token) refl)
 does s board P (UpdateJob update) each now seed plan is = subst P (sym is) (updates s board (UpdateJob update) P each update now (attempt_at s update.attempt) refl)
 does s board P (AppendTrace part) each now seed plan is = subst P (sym is) (appends s board (AppendTrace part) P each part refl now (attempt_at s part.attempt) refl)

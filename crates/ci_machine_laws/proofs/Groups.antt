@@ -1,5 +1,5 @@
 -- Each resource group of a project is held by at most one live attempt, in every state that a history leads to.
-use Rattle.std.proofs.Common.{◌≡◌, ◌⊎◌, ℕ, ◌==◌, ◌&&◌, ◌||◌, not, Bool, true, false, List, [], ◌∷◌, map, flat_map, Option, Some, None, option_map, refl, sym, ap}
+use Rattle.std.proofs.Common.{◌≡◌, ◌⊎◌, ℕ, ◌==◌, ◌&&◌, ◌||◌, not, Bool, true, false, List, [], ◌∷◌, map, Option, Some, None, option_map, refl, sym, ap}
 use Rattle.std.proofs.Common.{subst, ◌∙◌, inl, inr, ⊎_elim, eqb-true, ne_eqb}
 use Rattle.std.specs.List.{list_any}
 use Rattle.std.specs.Str.{bytes_eq}
@@ -26,11 +26,6 @@ use Rattle.ci_machine_laws.proofs.Held.{held}
 abbrev job_id : Job → ℕ
 job_id j = j.id
 
--- ---- lists
-
-any_flat : {A B : Type 0} (p : B → Bool) (f : A → List B) (x : A) (xs : List A) → Has x xs → list_any p (f x) ≡ true → list_any p (flat_map f xs) ≡ true
-any_flat p f x xs k e = sym (any_joined p f xs) ∙ has_any (λ y. list_any p (f y)) x xs k e
-
 pub only_one : (b : Bool) → (b || false) ≡ true → b ≡ true
 only_one true e = refl
 only_one false e = absurd (false≢true e)
@@ -48,7 +43,7 @@ free_none hs n project (Some group) free p g e =
 
 -- what a live attempt is in, is held
 in_holders : (s : State) (a : Attempt) → Has a s.attempts → is_live a ≡ true → (p : ℕ) (g : List ℕ) → is_in_group s p g a ≡ true → list_any (holds p g) (holders s) ≡ true
-in_holders s a k live p g e = any_flat (holds p g) (held_of s) a (live_attempts s) (filter_has is_live a s.attempts k live) e
+in_holders s a k live p g e = sym (any_joined (holds p g) (held_of s) (live_attempts s)) ∙ has_any (λ b. list_any (holds p g) (held_of s b)) a (live_attempts s) (filter_has is_live a s.attempts k live) e
 
 -- ---- a job is found as it was
 

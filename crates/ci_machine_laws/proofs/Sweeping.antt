@@ -6,7 +6,7 @@ use Rattle.std.proofs.lemmas.Bool.{cond_both, cond-true, cond-false, both_ways, 
 use Rattle.std.proofs.lemmas.List.{length-map}
 use Rattle.ci_machine_steps.specs.Prelude.{AttemptState, AllowFailure, is_live_state, Effect, Good, Bars, Facts, Row, Status, is_status, is_allowed, is_allowed_by, effect, is_open}
 use Rattle.ci_machine_steps.specs.Prelude.{is_met, waits_for_play, idle_status, status_by, status_of_effects, AreRows, no_facts, no_row, facts_at, statuses, effects_of}
-use Rattle.ci_machine_steps.specs.Prelude.{IsAssignment, some_job, has_status, has_strict, pipeline_status, Lease, Attempt, BoardRow, Job, Pipeline, PipelineWithStatus, Unfinished}
+use Rattle.ci_machine_steps.specs.Prelude.{IsAssignment, some_job, has_status, has_strict, pipeline_status, Lease, Attempt, BoardRow, Job, Pipeline, PipelineWithStatus}
 use Rattle.ci_machine_steps.specs.Prelude.{Event, Seed, Answer, Swept, RowChange, State, applied, attempt_cmp, jobs_of, attempts_of, graph_of, facts_in, facts_of, row_for, rows_of}
 use Rattle.ci_machine_steps.specs.Prelude.{status_for, AreBoard, is_live, is_over, cause_of, first_due, is_unfinished, is_newer_of, is_redundant, is_open_in, is_cancellable}
 use Rattle.ci_machine_steps.specs.Prelude.{cancellable_jobs, is_lease_on, cancelled_job, cancelled_attempt, cancel, is_job_among, ends, sweep, Step, lease_of, leases}
@@ -67,6 +67,9 @@ passing_fewer p q (z ∷ zs) h x k e f =
     (λ g. rw (h z (inl refl) g) (omega arith))
     (λ g. cond_both (p z) (z ∷ filter p zs) (filter p zs) (λ l. passing q zs + 1 ≤ length l) (λ _. omega arith) (λ _. omega arith)))
     k
+
+unended_is : (s : State) (board : List BoardRow) → unended s board ≡ passing is_live s.attempts + passing (is_open_in s board) s.pipelines
+unended_is s board = ap (λ n. passing is_live s.attempts + n) (length-map (filter (is_open_in s board) s.pipelines) (λ (p : Pipeline). record { pipeline = p.id }))
 
 -- ---- statuses
 
@@ -361,10 +364,7 @@ module _ (s : State) (board : List BoardRow) (are : AreBoard s board) (known : S
       (λ differs. sym (others_after one after are_after q (λ same. both_ways (q.id == p.id) differs (eq-eqb q.id p.id same))) ∙ e)
       (cases_Bool (q.id == p.id)))
       p has unfinished done in
-      let row : Pipeline → Unfinished = λ w. record { pipeline = w.id } in
-      let long_after = length-map (filter (is_open_in t after) s.pipelines) row in
-      let long_before = length-map (filter (is_open_in s board) s.pipelines) row in
-      omega arith
+      omega (arith, unended_is t after, unended_is s board)
 
 -- ---- a lease that ends
 
@@ -425,10 +425,7 @@ module _ (s : State) (board : List BoardRow) (are : AreBoard s board) (known : S
       (λ a k. either_end (λ (w : Attempt). is_live w ≡ true → is_live a ≡ true) a k (λ _ e. absurd (false≢true (sym over ∙ e))) (λ _ e. e)) x has live (ap is_live ends_so ∙ over)) in
       let open_still : passing (is_open_in after_end after) s.pipelines ≤ passing (is_open_in s board) s.pipelines
       = passing_implied (is_open_in s board) (is_open_in after_end after) s.pipelines (λ q k e. was_open one after are_after q e) in
-      let row : Pipeline → Unfinished = λ w. record { pipeline = w.id } in
-      let long_after = length-map (filter (is_open_in after_end after) s.pipelines) row in
-      let long_before = length-map (filter (is_open_in s board) s.pipelines) row in
-      omega arith
+      omega (arith, unended_is after_end after, unended_is s board)
 
 -- ---- one sweep
 
