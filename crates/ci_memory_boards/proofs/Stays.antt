@@ -8,7 +8,7 @@ use Rattle.std.proofs.lemmas.Bool.{cond_both, false≢true}
 use Rattle.ci_machine_steps.specs.Prelude.{IndexChange, Key, Record, RowChange, Put, Remove, Attempt, BoardRow, Job, Need, Kept, row_cmp, put_rows, cleared, written, is_within}
 use Rattle.ci_machine_steps.specs.Prelude.{needs_within, attempts_within, rows_within, State, job_cmp, need_cmp, attempt_cmp, put, without, without_all, changed, applied, jobs_of}
 use Rattle.ci_machine.proofs.Filters.{filter_implied}
-use Rattle.ci_machine.proofs.Keyed.{Has, Rising, filter_has, has_from_all, rising_put, rising_filter, unequal}
+use Rattle.ci_machine.proofs.Keyed.{Has, filter_has, has_from_all, rising_put, rising_filter, unequal}
 use Rattle.ci_machine_steps.proofs.Sound.{ascend_from_rising, rising_from_ascend}
 use Rattle.ci_server_lookups.proofs.Changes.{state_stays, board_stays}
 use Rattle.ci_memory_boards.specs.Order.{InOrder}
@@ -121,90 +121,63 @@ own_job_of m (Put (Record.Job x)) j e =
     e
 own_job_of m _ j e = absurd (some_not_none (sym e))
 
--- ---- the order of attempts
+-- ---- the order of what is kept
 
-abbrev pub AttemptsAscend : State → Type 0
-AttemptsAscend s = IsStrictlySortedBy nat_cmp (map (λ a. a.id) s.attempts)
+module _ {A : Type 0} (id : A → ℕ) where
+  abbrev Ascend : List A → Type 0
+  Ascend xs = IsStrictlySortedBy nat_cmp (map id xs)
+
+  -- what ascends does with one more, and without those of a number
+  put_ascends : (x : A) (xs : List A) → Ascend xs → Ascend (put (λ a b. nat_cmp (id a) (id b)) x xs)
+  put_ascends x xs a = ascend_from_rising id 0 (put (λ a b. nat_cmp (id a) (id b)) x xs) (rising_put id x 0 xs (rising_from_ascend id xs a) (omega arith))
+
+  without_ascends : (n : ℕ) (xs : List A) → Ascend xs → Ascend (without id n xs)
+  without_ascends n xs a = ascend_from_rising id 0 (without id n xs) (rising_filter id (λ x. not (is_eq (nat_cmp (id x) n))) 0 xs (rising_from_ascend id xs a))
 
 abbrev by_id : Attempt → ℕ
 by_id a = a.id
 
-put_ascends : (x : Attempt) (s : State) → AttemptsAscend s → AttemptsAscend (changed (Put (Record.Attempt x)) s)
-put_ascends x s a = ascend_from_rising by_id 0 (put attempt_cmp x s.attempts) (rising_put by_id x 0 s.attempts (rising_from_ascend by_id s.attempts a) (omega arith))
-
-goes_ascends : (n : ℕ) (s : State) → AttemptsAscend s → AttemptsAscend (changed (Remove (Key.Attempt n)) s)
-goes_ascends n s a = ascend_from_rising by_id 0 (without by_id n s.attempts) (rising_filter by_id (λ x. not (is_eq (nat_cmp x.id n))) 0 s.attempts (rising_from_ascend by_id s.attempts a))
-
-one_ascends : (c : RowChange) (s : State) → AttemptsAscend s → AttemptsAscend (changed c s)
-one_ascends (Put (Record.Attempt x)) s a = put_ascends x s a
-one_ascends (Remove (Key.Attempt n)) s a = goes_ascends n s a
-one_ascends _ s a = a
-
-pub all_ascend : (cs : List RowChange) (s : State) → AttemptsAscend s → AttemptsAscend (applied cs s)
-all_ascend [] s a = a
-all_ascend (c ∷ cs) s a = all_ascend cs (changed c s) (one_ascends c s a)
-
--- ---- the order of jobs
-
-abbrev pub JobsAscend : State → Type 0
-JobsAscend s = IsStrictlySortedBy nat_cmp (map (λ j. j.id) s.jobs)
-
 abbrev job_id : Job → ℕ
 job_id j = j.id
-
-put_job_ascends : (x : Job) (s : State) → JobsAscend s → JobsAscend (changed (Put (Record.Job x)) s)
-put_job_ascends x s a = ascend_from_rising job_id 0 (put job_cmp x s.jobs) (rising_put job_id x 0 s.jobs (rising_from_ascend job_id s.jobs a) (omega arith))
-
-job_goes_ascends : (n : ℕ) (s : State) → JobsAscend s → JobsAscend (changed (Remove (Key.Job n)) s)
-job_goes_ascends n s a = ascend_from_rising job_id 0 (without job_id n s.jobs) (rising_filter job_id (λ x. not (is_eq (nat_cmp x.id n))) 0 s.jobs (rising_from_ascend job_id s.jobs a))
-
-one_job_ascends : (c : RowChange) (s : State) → JobsAscend s → JobsAscend (changed c s)
-one_job_ascends (Put (Record.Job x)) s a = put_job_ascends x s a
-one_job_ascends (Remove (Key.Job n)) s a = job_goes_ascends n s a
-one_job_ascends _ s a = a
-
-pub all_jobs_ascend : (cs : List RowChange) (s : State) → JobsAscend s → JobsAscend (applied cs s)
-all_jobs_ascend [] s a = a
-all_jobs_ascend (c ∷ cs) s a = all_jobs_ascend cs (changed c s) (one_job_ascends c s a)
-
--- ---- the order of rows
-
-abbrev pub RowsAscend : List BoardRow → Type 0
-RowsAscend rows = IsStrictlySortedBy nat_cmp (map (λ r. r.job) rows)
 
 abbrev by_job : BoardRow → ℕ
 by_job r = r.job
 
-rising_rows : (rs : List BoardRow) (board : List BoardRow) → Rising by_job 0 board → Rising by_job 0 (put_rows rs board)
-rising_rows [] board r = r
-rising_rows (x ∷ rs) board r = rising_rows rs (put row_cmp x board) (rising_put by_job x 0 board r (omega arith))
+abbrev pub RowsAscend : List BoardRow → Type 0
+RowsAscend rows = IsStrictlySortedBy nat_cmp (map (λ r. r.job) rows)
 
 pub rows_ascend : (rs : List BoardRow) (board : List BoardRow) → RowsAscend board → RowsAscend (put_rows rs board)
-rows_ascend rs board a = ascend_from_rising by_job 0 (put_rows rs board) (rising_rows rs board (rising_from_ascend by_job board a))
-
-rising_cleared : (jobs : List ℕ) (board : List BoardRow) → Rising by_job 0 board → Rising by_job 0 (without_all by_job jobs board)
-rising_cleared [] board r = r
-rising_cleared (n ∷ jobs) board r = rising_cleared jobs (without by_job n board) (rising_filter by_job (λ x. not (is_eq (nat_cmp x.job n))) 0 board r)
+rows_ascend [] board a = a
+rows_ascend (x ∷ rs) board a = rows_ascend rs (put row_cmp x board) (put_ascends by_job x board a)
 
 pub cleared_ascend : (jobs : List ℕ) (board : List BoardRow) → RowsAscend board → RowsAscend (without_all by_job jobs board)
-cleared_ascend jobs board a = ascend_from_rising by_job 0 (without_all by_job jobs board) (rising_cleared jobs board (rising_from_ascend by_job board a))
-
-pub written_in_order : (k : Kept) (cs : List RowChange) (rs : List BoardRow) (is : List IndexChange) (gone : List ℕ) → InOrder k → InOrder (written cs rs is (cleared gone k))
-written_in_order k cs rs is gone o =
-    let before : Kept = cleared gone k in
-    let mid : Kept = record before { state = applied cs before.state; board = put_rows rs before.board } in
-    record {
-      jobs = subst JobsAscend (sym (state_stays is mid)) (all_jobs_ascend cs k.state o.jobs);
-      attempts = subst AttemptsAscend (sym (state_stays is mid)) (all_ascend cs k.state o.attempts);
-      rows = subst RowsAscend (sym (board_stays is mid)) (rows_ascend rs before.board (cleared_ascend gone k.board o.rows));
-    }
-
--- what is kept is in order after changes of records, and after rows go
-pub records_in_order : (k : Kept) (cs : List RowChange) → InOrder k → InOrder (record k { state = applied cs k.state })
-records_in_order k cs o = record { jobs = all_jobs_ascend cs k.state o.jobs; attempts = all_ascend cs k.state o.attempts; rows = o.rows }
+cleared_ascend [] board a = a
+cleared_ascend (n ∷ jobs) board a = cleared_ascend jobs (without by_job n board) (without_ascends by_job n board a)
 
 pub cleared_in_order : (k : Kept) (gone : List ℕ) → InOrder k → InOrder (cleared gone k)
 cleared_in_order k gone o = record { jobs = o.jobs; attempts = o.attempts; rows = cleared_ascend gone k.board o.rows }
+
+one_in_order : (k : Kept) (c : RowChange) → InOrder k → InOrder (record k { state = changed c k.state })
+one_in_order k (Put (Record.Job x)) o = record { jobs = put_ascends job_id x k.state.jobs o.jobs; attempts = o.attempts; rows = o.rows }
+one_in_order k (Put (Record.Attempt x)) o = record { jobs = o.jobs; attempts = put_ascends by_id x k.state.attempts o.attempts; rows = o.rows }
+one_in_order k (Remove (Key.Job n)) o = record { jobs = without_ascends job_id n k.state.jobs o.jobs; attempts = o.attempts; rows = o.rows }
+one_in_order k (Remove (Key.Attempt n)) o = record { jobs = o.jobs; attempts = without_ascends by_id n k.state.attempts o.attempts; rows = o.rows }
+one_in_order k _ o = record { jobs = o.jobs; attempts = o.attempts; rows = o.rows }
+
+pub records_in_order : (k : Kept) (cs : List RowChange) → InOrder k → InOrder (record k { state = applied cs k.state })
+records_in_order k [] o = o
+records_in_order k (c ∷ cs) o = records_in_order (record k { state = changed c k.state }) cs (one_in_order k c o)
+
+pub written_in_order : (k : Kept) (cs : List RowChange) (rs : List BoardRow) (is : List IndexChange) (gone : List ℕ) → InOrder k → InOrder (written cs rs is (cleared gone k))
+written_in_order k cs rs is gone o =
+    let all = records_in_order (cleared gone k) cs (cleared_in_order k gone o) in
+    let board = put_rows rs (cleared gone k).board in
+    let mid : Kept = record (cleared gone k) { state = applied cs k.state; board = board } in
+    record {
+      jobs = subst (λ (s : State). Ascend job_id s.jobs) (sym (state_stays is mid)) all.jobs;
+      attempts = subst (λ (s : State). Ascend by_id s.attempts) (sym (state_stays is mid)) all.attempts;
+      rows = subst RowsAscend (sym (board_stays is mid)) (rows_ascend rs (cleared gone k).board all.rows);
+    }
 
 -- ---- rows that go
 

@@ -64,13 +64,7 @@ fn note_job(sheet: &mut Sheet, job: &Job) -> Option<()>
     ensures jobs { OnSome result (sheet.new.jobs.items ≡ put job_cmp job.now sheet.old.jobs.items) }
 {
     sheet.graph = None;
-    put_copy_of_job(&mut sheet.jobs, job)
-}
-
-fn put_copy_of_job(jobs: &mut Vec<Job>, job: &Job) -> Option<()>
-    ensures { OnSome result (jobs.new.items ≡ put job_cmp job.now jobs.old.items) }
-{
-    put_record(jobs, job.clone().ok()?)
+    put_record(&mut sheet.jobs, job.clone().ok()?)
 }
 
 /// A change that puts no job of the pipeline's between the two numbers.
@@ -101,18 +95,12 @@ fn note_attempt(sheet: &mut Sheet, attempt: &Attempt) -> Option<()>
     ensures { OnSome result ((k : Kept) → IsStrictlySortedBy nat_cmp (map (λ a. a.id) k.state.attempts) → IsRight sheet.old k → IsRight sheet.new (record k { state = with_record (row.Attempt attempt.now) k.state })) }
 {
     if sheet.has_within(attempt.job) {
-        return put_copy(&mut sheet.attempts, attempt);
+        return put_record(&mut sheet.attempts, attempt.clone().ok()?);
     }
     if sheet.has_attempt(attempt.id) {
         return None;
     }
     Some(())
-}
-
-fn put_copy(attempts: &mut Vec<Attempt>, attempt: &Attempt) -> Option<()>
-    ensures { OnSome result (attempts.new.items ≡ put attempt_cmp attempt.now attempts.old.items) }
-{
-    put_record(attempts, attempt.clone().ok()?)
 }
 
 fn after_rows(sheet: Sheet, rows: &[BoardRow]) -> Option<Sheet>

@@ -1,4 +1,4 @@
-use Rattle.std.proofs.Common.{ℕ, sym, ap, ◌∙◌}
+use Rattle.std.proofs.Common.{◌≡◌, ℕ, OnSome, sym, ap, ◌∙◌, rules}
 use Rattle.ci_machine_steps.specs.Prelude.{Attempt, is_within, attempt_cmp, put}
 use Rattle.ci_machine_steps.proofs.Sound.{rising_from_ascend}
 use Rattle.ci_memory_boards.proofs.Lists.{on_some_then}
@@ -14,7 +14,8 @@ pub returns-then-has_within : goal.returns-then-has_within
 returns-then-has_within c =
     let m = c.args.sheet.now in
     let new = c.args.attempt.now in
-    on_some_then c.put_copy.result c.put_copy.ensures (λ put_in k ascend right. record {
+    let placed : OnSome c.put_record.result (c.put_record.new.records.items ≡ put attempt_cmp new m.attempts.items) = search rules in
+    on_some_then c.put_record.result placed (λ put_in k ascend right. record {
       jobs = right.jobs;
       inside = right.inside;
       needs = right.needs;
