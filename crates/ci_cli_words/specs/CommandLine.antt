@@ -7,6 +7,7 @@ use Rattle.clap.specs.declared.builder.command.Command.{Command}
 use Rattle.clap.specs.declared.builder.command.Command.TheViews.{out-Command as fields_of}
 use Rattle.clap.specs.declared.builder.action.ArgAction.TheVariants.{Set, Append, SetTrue}
 use Rattle.clap.specs.declared.builder.value_parser.ValueParser.TheVariants as parser
+use Rattle.ci_cli_words.specs.declared.command_name.CommandName.{CommandName}
 
 -- `--name VALUE`, once
 abbrev pub option : Text → Rule
@@ -89,6 +90,20 @@ prune = command (codes "prune") (db ∷ named (required (option (codes "before")
 
 abbrev pub serve : Shape
 serve = command (codes "serve") serve_options
+
+-- the shape of the command of this name
+abbrev pub shape_of : CommandName → Shape
+shape_of CommandName.Check = check
+shape_of CommandName.Explain = explain
+shape_of CommandName.Plan = plan
+shape_of CommandName.Init = init
+shape_of CommandName.Migrate = migrate
+shape_of CommandName.ProjectAdd = project_add
+shape_of CommandName.RunnerAdd = runner_add
+shape_of CommandName.RunnerPause = runner_pause
+shape_of CommandName.Report = report
+shape_of CommandName.Prune = prune
+shape_of CommandName.Serve = serve
 
 -- the command has this shape, and no argument that its own commands would take over
 abbrev pub IsCommand : Shape → Command → Type 0

@@ -6,6 +6,7 @@ ghost use Rattle.clap.specs.Simple.{app_of};
 ghost use Rattle.ci_cli_words.specs.CommandLine as cli;
 ghost use Rattle.ci_cli_words.specs.CommandLine.{IsCommand};
 
+use crate::command_name::CommandName;
 use ci_values::limits::MAX_NUMBER;
 use clap::builder::ValueParser;
 use clap::{Arg, ArgAction, Command};
@@ -79,6 +80,21 @@ pub(crate) const STOP_ON_FAULT: &str = "stop-on-fault";
 
 pub(crate) const LOG: &str = "log";
 
+/// The commands, in the order in which they are told.
+const COMMANDS: [CommandName; 11] = [
+    CommandName::Check,
+    CommandName::Explain,
+    CommandName::Plan,
+    CommandName::Init,
+    CommandName::Migrate,
+    CommandName::ProjectAdd,
+    CommandName::RunnerAdd,
+    CommandName::RunnerPause,
+    CommandName::Report,
+    CommandName::Prune,
+    CommandName::Serve,
+];
+
 /// Where the rules of CI files stand.
 const RULES: &str = "The profile, with examples and its codes, is described in docs/PROFILE.md.";
 
@@ -86,22 +102,34 @@ const RULES: &str = "The profile, with examples and its codes, is described in d
 pub(crate) fn command_line<'a>(alloc: Global) -> Result<Command<'a>, AllocError>
     ensures { IfOk result (λ c. app_of c ≡ cli.command_line) }
 {
-    Command::new(alloc, "ciserver")
+    let mut program = Command::new(alloc, "ciserver")
         .about("A continuous integration server")
         .version(VERSION)
         .after_help(RULES)
-        .subcommand_required(true)
-        .subcommand(check(alloc)?)?
-        .subcommand(explain(alloc)?)?
-        .subcommand(plan(alloc)?)?
-        .subcommand(init(alloc)?)?
-        .subcommand(migrate(alloc)?)?
-        .subcommand(project_add(alloc)?)?
-        .subcommand(runner_add(alloc)?)?
-        .subcommand(runner_pause(alloc)?)?
-        .subcommand(report(alloc)?)?
-        .subcommand(prune(alloc)?)?
-        .subcommand(serve(alloc)?)
+        .subcommand_required(true);
+    for name in COMMANDS {
+        program = program.subcommand(command(alloc, name)?)?;
+    }
+    Ok(program)
+}
+
+/// The command of this name, with its arguments. Errors: memory was refused.
+fn command<'a>(alloc: Global, name: CommandName) -> Result<Command<'a>, AllocError>
+    ensures { IfOk result (IsCommand (cli.shape_of name)) }
+{
+    match name {
+        CommandName::Check => check(alloc),
+        CommandName::Explain => explain(alloc),
+        CommandName::Plan => plan(alloc),
+        CommandName::Init => init(alloc),
+        CommandName::Migrate => migrate(alloc),
+        CommandName::ProjectAdd => project_add(alloc),
+        CommandName::RunnerAdd => runner_add(alloc),
+        CommandName::RunnerPause => runner_pause(alloc),
+        CommandName::Report => report(alloc),
+        CommandName::Prune => prune(alloc),
+        CommandName::Serve => serve(alloc),
+    }
 }
 
 /// A command over a CI file, of this name. Errors: memory was refused.
@@ -194,11 +222,8 @@ fn plan<'a>(alloc: Global) -> Result<Command<'a>, AllocError>
         .value_name("K=V")
         .help("A variable of the request; it may stand several times");
     let about = "Tells which jobs a pipeline of a CI file would have, or why there is none";
-    over_ci_file(alloc, PLAN, about)?
-        .arg(git_ref)?
-        .arg(tag)?
-        .arg(source)?
-        .arg(variable)
+    let args = vec![in alloc; git_ref, tag, source, variable]?;
+    over_ci_file(alloc, PLAN, about)?.args(args)
 }
 
 fn init<'a>(alloc: Global) -> Result<Command<'a>, AllocError>
@@ -237,11 +262,8 @@ fn runner_add<'a>(alloc: Global) -> Result<Command<'a>, AllocError>
         .help("Its tags, parted by commas");
     let untagged = flag(alloc, UNTAGGED).help("It runs jobs that have no tags");
     let about = "Makes a runner, and prints its number and its token";
-    over_server_file(alloc, RUNNER_ADD, about)?
-        .arg(name)?
-        .arg(project)?
-        .arg(tags)?
-        .arg(untagged)
+    let args = vec![in alloc; name, project, tags, untagged]?;
+    over_server_file(alloc, RUNNER_ADD, about)?.args(args)
 }
 
 fn runner_pause<'a>(alloc: Global) -> Result<Command<'a>, AllocError>
@@ -251,9 +273,8 @@ fn runner_pause<'a>(alloc: Global) -> Result<Command<'a>, AllocError>
         .required(true)
         .help("The runner's number");
     let resume = flag(alloc, RESUME).help("It goes on");
-    over_server_file(alloc, RUNNER_PAUSE, "Has a runner get no jobs, or go on")?
-        .arg(runner)?
-        .arg(resume)
+    let args = vec![in alloc; runner, resume]?;
+    over_server_file(alloc, RUNNER_PAUSE, "Has a runner get no jobs, or go on")?.args(args)
 }
 
 fn report<'a>(alloc: Global) -> Result<Command<'a>, AllocError>
@@ -264,14 +285,13 @@ fn report<'a>(alloc: Global) -> Result<Command<'a>, AllocError>
     );
     let pipeline = number(alloc, PIPELINE, MAX_NUMBER).help("The pipeline's number");
     let json = flag(alloc, JSON).help("As JSON, and not as a table");
+    let args = vec![in alloc; kind, pipeline, json]?;
     over_server_file(
         alloc,
         REPORT,
         "Prints what the server of a file has, as a table",
     )?
-    .arg(kind)?
-    .arg(pipeline)?
-    .arg(json)
+    .args(args)
 }
 
 fn prune<'a>(alloc: Global) -> Result<Command<'a>, AllocError>
@@ -297,13 +317,11 @@ fn serve<'a>(alloc: Global) -> Result<Command<'a>, AllocError>
     let log = option(alloc, LOG).value_name("WHAT").help(
         "What goes to standard error: events, or requests, and events too",
     );
+    let args = vec![in alloc; port, requests, stop, log]?;
     over_server_file(
         alloc,
         SERVE,
         "Serves requests over HTTP, one after the other",
     )?
-    .arg(port)?
-    .arg(requests)?
-    .arg(stop)?
-    .arg(log)
+    .args(args)
 }

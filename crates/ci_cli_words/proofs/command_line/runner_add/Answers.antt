@@ -1,10 +1,11 @@
-use Rattle.std.proofs.Common.{◌≡◌, ◌∙◌, [], ◌∷◌, ap, codes}
+use Rattle.std.proofs.Common.{◌≡◌, ◌∙◌, [], ◌∷◌, ap, subst, codes}
 use Rattle.std.proofs.lemmas.Result.{IfOk-weaker}
 use Rattle.ci_machine.specs.Prelude.{MAX_NUMBER}
+use Rattle.clap.specs.Built.{AddsArg, AddsInTurn}
 use Rattle.clap.specs.Walk.{rule_of}
 use Rattle.clap.specs.declared.builder.arg.Arg.{Arg}
 use Rattle.ci_cli_words.specs.CommandLine.{command, db, flag, named, number, option, required}
-use Rattle.ci_cli_words.proofs.Commands.{with_argument}
+use Rattle.ci_cli_words.proofs.Commands.{with_arguments}
 use Rattle.ci_cli_words.proofs.command_line.runner_add.Goals as goal
 
 pub returns : goal.returns
@@ -17,7 +18,4 @@ returns c =
     let tags_local = ap (λ (a : Arg). a.global) c.help-tags.ensures ∙ (ap (λ (a : Arg). a.global) c.value_name.ensures ∙ (c.option.ensures.local)) in
     let untagged : rule_of c.help-untagged.result ≡ flag (codes "untagged") = ap rule_of c.help-untagged.ensures ∙ (c.flag.ensures.rule) in
     let untagged_local = ap (λ (a : Arg). a.global) c.help-untagged.ensures ∙ (c.flag.ensures.local) in
-    let is1 = with_argument (command (codes "runner-add") (db ∷ [])) c.in_ok-over_server_file.field-0 c.in_ok-arg.field-0 c.help-name.result (required (option (codes "name"))) c.in_ok-over_server_file.ensures name name_local c.in_ok-arg.ensures in
-    let is2 = with_argument (command (codes "runner-add") (db ∷ required (option (codes "name")) ∷ [])) c.in_ok-arg.field-0 c.in_ok-arg-2.field-0 c.help-project.result (number (codes "project") MAX_NUMBER) is1 project project_local c.in_ok-arg-2.ensures in
-    let is3 = with_argument (command (codes "runner-add") (db ∷ required (option (codes "name")) ∷ number (codes "project") MAX_NUMBER ∷ [])) c.in_ok-arg-2.field-0 c.in_ok-arg-3.field-0 c.help-tags.result (named (option (codes "tags"))) is2 tags tags_local c.in_ok-arg-3.ensures in
-    IfOk-weaker c.arg-4.result _ _ (λ made adds. with_argument (command (codes "runner-add") (db ∷ required (option (codes "name")) ∷ number (codes "project") MAX_NUMBER ∷ named (option (codes "tags")) ∷ [])) c.in_ok-arg-3.field-0 made c.help-untagged.result (flag (codes "untagged")) is3 untagged untagged_local adds) c.arg-4.ensures
+    IfOk-weaker c.args-2.result _ _ (λ made adds. with_arguments (command (codes "runner-add") (db ∷ [])) c.in_ok-over_server_file.field-0 made (c.help-name.result ∷ c.help-project.result ∷ c.help-tags.result ∷ c.help-untagged.result ∷ []) _ c.in_ok-over_server_file.ensures (λ i. name i ∷ project i ∷ tags i ∷ untagged i ∷ []) (name_local, (project_local, (tags_local, (untagged_local, tt)))) (subst (λ items. AddsInTurn AddsArg c.in_ok-over_server_file.field-0 items made) c.in_ok-args.ensures.items adds)) c.args-2.ensures
