@@ -1,13 +1,50 @@
 -- What a transaction leaves, however it ends.
 use Rattle.std.proofs.Common.{◌≡◌, ◌∙◌, inl, inr, ⊎_elim, IsTrue, true, false, refl, sym, ap, subst, arith}
-use Rattle.ci_store.specs.Prelude.{Trees, Database, HasCleanDisk, Survives, IsUnchanged, Shows, KeepsCommit, IsRolledBack, Ghosts, Held, state, Kept, nothing_kept}
+use Rattle.ci_store.specs.Prelude.{Trees, Database, HasCleanDisk, Survives, KeepsInside, CommitsNothing, IsUnchanged, Shows, KeepsCommit, IsRolledBack, Ghosts, Held, state, Kept, nothing_kept}
 use Rattle.sqlite.specs.State.{State as Seen}
 use Rattle.sqlite.proofs.StateLemmas.{survives_then}
+use Rattle.sqlite.proofs.InsideLemmas.{keeps_then}
 use Rattle.ci_store_sqlite.specs.Prelude.{Makes, CommitsAll, IsBack, IsDone, IsBlank, Stands, StandsIn, IsAt, LeavesOnly, LeavesEither}
 
 -- where nothing happens, a stop leaves what it left
 pub survives_same : (s : Seen) (P : Trees → Type 0) → Survives s s P
 survives_same s P = record { clean = omega arith; shield = λ h. h; counts = omega arith; limit = refl; closes = λ _ h. inl h; crash = λ _ db h. inl h }
+
+-- ---- calls one after the other inside a transaction
+
+-- the tables follow this change of what they keep
+abbrev pub Follows : {S : Type 0} → Ghosts S → (Kept → Kept) → Held S → Held S → Type 0
+Follows g change old new = (k : Kept) → Stands k (state g old).now → Stands (change k) (state g new).now
+
+-- the calls so far left the transaction open, with this made of them, and committed nothing
+pub record RunsInside {S : Type 0} (g : Ghosts S) (Made : Type 0) (old new : Held S) : Type 0 where
+  pub done : HasCleanDisk (state g new) → IsTrue old.in_transaction → IsTrue new.in_transaction × Made
+  pub kept : KeepsInside g old new
+  pub survives : CommitsNothing g old new
+
+pub runs_none : {S Made : Type 0} (g : Ghosts S) (old : Held S) → Made → RunsInside g Made old old
+runs_none g old made = record { done = λ clean inside. (inside, made); kept = λ clean inside. record { was_open = λ h. h; committed = λ h. refl }; survives = survives_same _ _ }
+
+module _ {S Made : Type 0} {g : Ghosts S} {old mid : Held S} (before : RunsInside g Made old mid) (new : Held S) (kept : KeepsInside g mid new) (survives : CommitsNothing g mid new) where
+  was_clean : HasCleanDisk (state g new) → HasCleanDisk (state g mid)
+  was_clean clean = omega (arith, clean, survives.clean)
+
+  pub kept_after : KeepsInside g old new
+  kept_after clean inside = keeps_then _ _ _ (before.kept (was_clean clean) inside) (kept clean (before.done (was_clean clean) inside).0)
+
+  pub survives_after : CommitsNothing g old new
+  survives_after = survives_then _ _ _ _ _ _ (λ _ db none. none) (λ _ db none. none) before.survives survives
+
+  pub runs_more : {More : Type 0} → (HasCleanDisk (state g new) → IsTrue mid.in_transaction → Made → IsTrue new.in_transaction × More) → RunsInside g More old new
+  runs_more more = record { done = λ clean inside. let was = before.done (was_clean clean) inside in more clean was.0 was.1; kept = kept_after; survives = survives_after }
+
+-- one change more
+pub follows_more : {S : Type 0} {g : Ghosts S} {old mid : Held S} (done change next : Kept → Kept) → RunsInside g (Follows g done old mid) old mid → (new : Held S) → KeepsInside g mid new → CommitsNothing g mid new
+    → (HasCleanDisk (state g new) → IsTrue mid.in_transaction → Makes g change mid new) → ((k : Kept) → next k ≡ change (done k)) → RunsInside g (Follows g next old new) old new
+follows_more {g = g} done change next before new kept survives makes step =
+    runs_more before new kept survives (λ clean inside was. let more = makes clean inside in (more.0, λ k stands. subst (λ k. Stands k (state g new).now) (sym (step k)) (more.1 (done k) (was k stands))))
+
+-- ---- what the store holds after a transaction
 
 module _ {S : Type 0} (g : Ghosts S) where
   -- a store that is as the last commit left it, and open, holds what it held

@@ -1,13 +1,10 @@
-use Rattle.std.proofs.Common.{◌≡◌, take, IsTrue}
-use Rattle.ci_store.specs.Prelude.{HasCleanDisk, KeepsCommit, Survives, state, indexed_all}
-use Rattle.ci_store_sqlite.specs.Prelude.{Makes}
+use Rattle.std.proofs.Common.{◌≡◌, take}
+use Rattle.ci_store.specs.Prelude.{indexed_all}
+use Rattle.ci_store_sqlite.proofs.Committing.{RunsInside, Follows}
 use Rattle.ci_store_sqlite.proofs.commit.change_indexes.Given as goal
 
 abbrev pub invariant-loop-change : goal.invariant-loop-change
 invariant-loop-change g l =
     let old = l.fn.tx.conn.now in
     let now = l.tx.conn.now in
-    (l.tx.conn.ghost_name ≡ l.fn.tx.conn.ghost_name)
-    × (HasCleanDisk (state g.S.Store now) → IsTrue old.in_transaction → Makes g.S.Store (indexed_all (take l.change-index l.indexes)) old now)
-    × (HasCleanDisk (state g.S.Store now) → IsTrue old.in_transaction → KeepsCommit (state g.S.Store old) (state g.S.Store now))
-    × Survives (state g.S.Store old) (state g.S.Store now) (λ _. ⊥)
+    (l.tx.conn.ghost_name ≡ l.fn.tx.conn.ghost_name) × RunsInside g.S.Store (Follows g.S.Store (indexed_all (take l.change-index l.indexes)) old now) old now

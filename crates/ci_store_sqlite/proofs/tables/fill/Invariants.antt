@@ -1,13 +1,12 @@
-use Rattle.std.proofs.Common.{◌≡◌, IsTrue}
-use Rattle.ci_store.specs.Prelude.{HasCleanDisk, Survives, state, IsOf}
+use Rattle.std.proofs.Common.{◌≡◌}
+use Rattle.ci_store.specs.Prelude.{state, IsOf}
 use Rattle.ci_store_sqlite.specs.Prelude.{the_schema, IsBare}
 use Rattle.ci_store_rows.proofs.Fills.{rows_after}
+use Rattle.ci_store_sqlite.proofs.Committing.{RunsInside}
 use Rattle.ci_store_sqlite.proofs.tables.fill.Given as goal
 
 abbrev pub invariant-loop-key : goal.invariant-loop-key
 invariant-loop-key g l =
     let old = l.fn.tx.conn.now in
     let now = l.tx.conn.now in
-    (l.tx.conn.ghost_name ≡ l.fn.tx.conn.ghost_name)
-    × (HasCleanDisk (state g.S.Store now) → IsTrue old.in_transaction → IsTrue now.in_transaction × (IsBare the_schema (state g.S.Store old).now → IsOf the_schema (rows_after l.key-index) (state g.S.Store now).now))
-    × Survives (state g.S.Store old) (state g.S.Store now) (λ _. ⊥)
+    (l.tx.conn.ghost_name ≡ l.fn.tx.conn.ghost_name) × RunsInside g.S.Store (IsBare the_schema (state g.S.Store old).now → IsOf the_schema (rows_after l.key-index) (state g.S.Store now).now) old now
