@@ -136,31 +136,6 @@ all_run (suc (suc (suc (suc (suc (suc (suc (suc (suc (suc (suc (suc (suc (suc (s
 pub runs_next : (k : ℕ) → k < 21 → (text : List ℕ) (old new : State) (count : ℕ) → IsBare (schema_after k) old.now → Executes text [] old new (Ok count) → text ≡ text_at k → IsBare (schema_after (k + 1)) new.now
 runs_next k low text old new count bare h is = all_run k low old new count bare (subst (λ t. Executes t [] old new (Ok count)) is h)
 
--- each place below twenty-one
-pub below_twenty_one : (k : ℕ) → k < 21 → (k ≡ 0) ⊎ ((k ≡ 1) ⊎ ((k ≡ 2) ⊎ ((k ≡ 3) ⊎ ((k ≡ 4) ⊎ ((k ≡ 5) ⊎ ((k ≡ 6) ⊎ ((k ≡ 7) ⊎ ((k ≡ 8) ⊎ ((k ≡ 9) ⊎ ((k ≡ 10) ⊎ ((k ≡ 11) ⊎ ((k ≡ 12) ⊎ ((k ≡ 13) ⊎ ((k ≡ 14) ⊎ ((k ≡ 15) ⊎ ((k ≡ 16) ⊎ ((k ≡ 17) ⊎ ((k ≡ 18) ⊎ ((k ≡ 19) ⊎ (k ≡ 20))))))))))))))))))))
-below_twenty_one zero low = inl refl
-below_twenty_one (suc zero) low = inr (inl refl)
-below_twenty_one (suc (suc zero)) low = inr (inr (inl refl))
-below_twenty_one (suc (suc (suc zero))) low = inr (inr (inr (inl refl)))
-below_twenty_one (suc (suc (suc (suc zero)))) low = inr (inr (inr (inr (inl refl))))
-below_twenty_one (suc (suc (suc (suc (suc zero))))) low = inr (inr (inr (inr (inr (inl refl)))))
-below_twenty_one (suc (suc (suc (suc (suc (suc zero)))))) low = inr (inr (inr (inr (inr (inr (inl refl))))))
-below_twenty_one (suc (suc (suc (suc (suc (suc (suc zero))))))) low = inr (inr (inr (inr (inr (inr (inr (inl refl)))))))
-below_twenty_one (suc (suc (suc (suc (suc (suc (suc (suc zero)))))))) low = inr (inr (inr (inr (inr (inr (inr (inr (inl refl))))))))
-below_twenty_one (suc (suc (suc (suc (suc (suc (suc (suc (suc zero))))))))) low = inr (inr (inr (inr (inr (inr (inr (inr (inr (inl refl)))))))))
-below_twenty_one (suc (suc (suc (suc (suc (suc (suc (suc (suc (suc zero)))))))))) low = inr (inr (inr (inr (inr (inr (inr (inr (inr (inr (inl refl))))))))))
-below_twenty_one (suc (suc (suc (suc (suc (suc (suc (suc (suc (suc (suc zero))))))))))) low = inr (inr (inr (inr (inr (inr (inr (inr (inr (inr (inr (inl refl)))))))))))
-below_twenty_one (suc (suc (suc (suc (suc (suc (suc (suc (suc (suc (suc (suc zero)))))))))))) low = inr (inr (inr (inr (inr (inr (inr (inr (inr (inr (inr (inr (inl refl))))))))))))
-below_twenty_one (suc (suc (suc (suc (suc (suc (suc (suc (suc (suc (suc (suc (suc zero))))))))))))) low = inr (inr (inr (inr (inr (inr (inr (inr (inr (inr (inr (inr (inr (inl refl)))))))))))))
-below_twenty_one (suc (suc (suc (suc (suc (suc (suc (suc (suc (suc (suc (suc (suc (suc zero)))))))))))))) low = inr (inr (inr (inr (inr (inr (inr (inr (inr (inr (inr (inr (inr (inr (inl refl))))))))))))))
-below_twenty_one (suc (suc (suc (suc (suc (suc (suc (suc (suc (suc (suc (suc (suc (suc (suc zero))))))))))))))) low = inr (inr (inr (inr (inr (inr (inr (inr (inr (inr (inr (inr (inr (inr (inr (inl refl)))))))))))))))
-below_twenty_one (suc (suc (suc (suc (suc (suc (suc (suc (suc (suc (suc (suc (suc (suc (suc (suc zero)))))))))))))))) low = inr (inr (inr (inr (inr (inr (inr (inr (inr (inr (inr (inr (inr (inr (inr (inr (inl refl))))))))))))))))
-below_twenty_one (suc (suc (suc (suc (suc (suc (suc (suc (suc (suc (suc (suc (suc (suc (suc (suc (suc zero))))))))))))))))) low = inr (inr (inr (inr (inr (inr (inr (inr (inr (inr (inr (inr (inr (inr (inr (inr (inr (inl refl)))))))))))))))))
-below_twenty_one (suc (suc (suc (suc (suc (suc (suc (suc (suc (suc (suc (suc (suc (suc (suc (suc (suc (suc zero)))))))))))))))))) low = inr (inr (inr (inr (inr (inr (inr (inr (inr (inr (inr (inr (inr (inr (inr (inr (inr (inr (inl refl))))))))))))))))))
-below_twenty_one (suc (suc (suc (suc (suc (suc (suc (suc (suc (suc (suc (suc (suc (suc (suc (suc (suc (suc (suc zero))))))))))))))))))) low = inr (inr (inr (inr (inr (inr (inr (inr (inr (inr (inr (inr (inr (inr (inr (inr (inr (inr (inr (inl refl)))))))))))))))))))
-below_twenty_one (suc (suc (suc (suc (suc (suc (suc (suc (suc (suc (suc (suc (suc (suc (suc (suc (suc (suc (suc (suc zero)))))))))))))))))))) low = inr (inr (inr (inr (inr (inr (inr (inr (inr (inr (inr (inr (inr (inr (inr (inr (inr (inr (inr (inr refl)))))))))))))))))))
-below_twenty_one (suc (suc (suc (suc (suc (suc (suc (suc (suc (suc (suc (suc (suc (suc (suc (suc (suc (suc (suc (suc (suc k))))))))))))))))))))) low = absurd (omega (arith, low))
-
 -- ---- what version 2 has more
 
 pub makes_mode : MeansTable (schema_after 21) the_schema CREATE_MODE.now (record table.mode { tree = 0 })

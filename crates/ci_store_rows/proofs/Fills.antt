@@ -1,5 +1,5 @@
 -- The first rows of `meta`.
-use Rattle.std.proofs.Common.{◌≡◌, ◌⊎◌, inl, inr, ℕ, zero, suc, ◌+◌, ◌<◌, ◌==◌, if◌then◌else◌, take, List, [], ◌∷◌, ◌++◌, codes, map, Ok, refl, sym, subst, arith, append-nil, slice_index_or, IsPermutation}
+use Rattle.std.proofs.Common.{◌≡◌, ℕ, zero, suc, ◌+◌, ◌<◌, ◌==◌, if◌then◌else◌, take, List, [], ◌∷◌, ◌++◌, codes, map, Ok, sym, subst, arith, append-nil, slice_index_or, IsPermutation}
 use Rattle.std.specs.List.{AllByRecursion}
 use Rattle.std.proofs.lemmas.List.Sorted.{IsPermutation-sym, IsPermutation-refl, IsPermutation-middle}
 use Rattle.ci_store.specs.Prelude.{Text, value_cmp, Row, Table, Trees, Database, Executes, IsSound, IsShaped, nothing_kept, first_numbers, image, places, without, Holds, IsOf}
@@ -66,14 +66,3 @@ fills_next k low key num same old new count it h =
     inserts_one the_schema 0 meta UPDATE_META.now INSERT_META.now (is 1 0 ∷ []) sets terms means (Text (key_at k) ∷ []) (meta_row (key_at k) (number_at k)) (gives (key_at k) (number_at k)) (rows_after k) (rows_after (k + 1))
     (alike_but [] [] meta (take k first_rows) (take (k + 1) first_rows)) (grown k low) old new count it
     (subst (λ row. Executes INSERT_META.now row old new (Ok count)) (λ i. meta_row (same.0 i) (same.1 i)) h)
-
--- each place below seven
-pub below_seven : (k : ℕ) → k < 7 → (k ≡ 0) ⊎ ((k ≡ 1) ⊎ ((k ≡ 2) ⊎ ((k ≡ 3) ⊎ ((k ≡ 4) ⊎ ((k ≡ 5) ⊎ (k ≡ 6))))))
-below_seven zero low = inl refl
-below_seven (suc zero) low = inr (inl refl)
-below_seven (suc (suc zero)) low = inr (inr (inl refl))
-below_seven (suc (suc (suc zero))) low = inr (inr (inr (inl refl)))
-below_seven (suc (suc (suc (suc zero)))) low = inr (inr (inr (inr (inl refl))))
-below_seven (suc (suc (suc (suc (suc zero))))) low = inr (inr (inr (inr (inr (inl refl)))))
-below_seven (suc (suc (suc (suc (suc (suc zero)))))) low = inr (inr (inr (inr (inr (inr refl)))))
-below_seven (suc (suc (suc (suc (suc (suc (suc k))))))) low = absurd (omega (arith, low))
