@@ -7,7 +7,7 @@ use Rattle.ci_machine.specs.declared.reply.Code.{Code}
 use Rattle.ci_machine.specs.declared.reply.Code.TheVariants.{H1, H2}
 use Rattle.ci_http_messages.specs.Prelude.{body_length, Head, IsHeadOf, Opening, short, too_large, opened, opening_at, opening_of, head_len, is_line_feed, Message, message}
 use Rattle.ci_http_messages.specs.Prelude.{Reading, ended, refused, request, reading_by, reading_after, IsReadingAt, IsReading, MAX_HEAD_BYTES, MAX_HEAD_LINES}
-use Rattle.ci_http_messages.proofs.Heads.{head_len-bounds, head_len-front, opening-head, opening-lines, opening-long}
+use Rattle.ci_http_messages.proofs.Heads.{head_len-bounds, head_len-front, opening-front, opening-long}
 use Rattle.ci_http_messages.proofs.Readings.{after_body, by_few, by_enough, reading_ended}
 
 -- the text has a front that opens it alike, whatever follows
@@ -29,9 +29,9 @@ opens_none bytes false e p =
 opens_some : (bytes : List ℕ) (n : ℕ) (s : Bool) → head_len (take MAX_HEAD_BYTES bytes) ≡ Some n
     → nat_lt MAX_HEAD_LINES (count_by is_line_feed (take n bytes)) ≡ s → n ≤ MAX_HEAD_BYTES → n ≤ length bytes → head_len (take n bytes) ≡ Some (length (take n bytes)) → Opens bytes
 opens_some bytes n true e p less fits found =
-    inr (inl (take n bytes, drop n bytes, sym (take-append-drop n bytes), λ other. opening-lines (take n bytes) other found (omega (arith, length-take-le n bytes fits)) p))
+    inr (inl (take n bytes, drop n bytes, sym (take-append-drop n bytes), λ other. opening-front (take n bytes) other true found (omega (arith, length-take-le n bytes fits)) p))
 opens_some bytes n false e p less fits found =
-    inr (inr (take n bytes, drop n bytes, sym (take-append-drop n bytes), λ other. opening-head (take n bytes) other found (omega (arith, length-take-le n bytes fits)) p))
+    inr (inr (take n bytes, drop n bytes, sym (take-append-drop n bytes), λ other. opening-front (take n bytes) other false found (omega (arith, length-take-le n bytes fits)) p))
 
 length_take_most : (n : ℕ) (l : List ℕ) → (length (take n l) ≤ n) × (length (take n l) ≤ length l)
 length_take_most n l = (omega (arith, length-take n l), omega (arith, length-take n l))
@@ -70,24 +70,31 @@ takes_none head after rest reading why is e =
 enough : (n len : ℕ) → nat_lt n len ≡ false → len ≤ n
 enough n len p = grind (arith, nat_tests)
 
-takes_body : (h : Head) (len : ℕ) (s : Bool) (after rest : List ℕ) (reading : Reading) → (reading ≡ ended → ⊥) → body_length h ≡ Ok len
-    → nat_lt (length after) len ≡ s → (reading, rest) ≡ reading_after (Some h) after → Takes (Some h) after reading rest
-takes_body h len true after rest reading some is p e =
+-- who isn't ended has the body that the head says
+abbrev HasBody : Head → ℕ → List ℕ → List ℕ → Reading → Type 0
+HasBody h len after rest reading =
+    (body : List ℕ) × (length body ≡ len) × (after ≡ body ++ rest) × (reading ≡ request (message h body))
+
+has_body : (h : Head) (len : ℕ) (s : Bool) (after rest : List ℕ) (reading : Reading) → (reading ≡ ended → ⊥) → body_length h ≡ Ok len
+    → nat_lt (length after) len ≡ s → (reading, rest) ≡ reading_after (Some h) after → HasBody h len after rest reading
+has_body h len true after rest reading some is p e =
     let same : (reading, rest) ≡ (ended, []) = e ∙ ap (reading_by h after) is ∙ by_few h after len p in
     absurd (some (first_is (reading, rest) (ended, []) same))
-takes_body h len false after rest reading some is p e =
+has_body h len false after rest reading some is p e =
     let body = take len after in
-    let same : (reading, rest) ≡ (request (message h body), drop len after) = e ∙ ap (reading_by h after) is ∙ by_enough h after len p in
-    let size : length body ≡ len = length-take-le len after (enough (length after) len p) in (
+    let same : (reading, rest) ≡ (request (message h body), drop len after) = e ∙ ap (reading_by h after) is ∙ by_enough h after len p in (
       body,
+      length-take-le len after (enough (length after) len p),
       sym (take-append-drop len after) ∙ ap (λ r. body ++ r) (sym (second_is (reading, rest) (request (message h body), drop len after) same)),
-      λ other. ap (λ r. (r, other)) (first_is (reading, rest) (request (message h body), drop len after) same) ∙ sym (after_body h len body other is size),
+      first_is (reading, rest) (request (message h body), drop len after) same,
     )
 
 takes_by : (h : Head) (len : Result ℕ Code) (after rest : List ℕ) (reading : Reading) → (reading ≡ ended → ⊥) → body_length h ≡ len
     → (reading, rest) ≡ reading_after (Some h) after → Takes (Some h) after reading rest
 takes_by h (Err why) after rest reading some is e = takes_none (Some h) after rest reading why (λ other. ap (reading_by h other) is) e
-takes_by h (Ok len) after rest reading some is e = takes_body h len (nat_lt (length after) len) after rest reading some is refl e
+takes_by h (Ok len) after rest reading some is e =
+    let (body, size, split, same) = has_body h len (nat_lt (length after) len) after rest reading some is refl e in
+    (body, split, λ other. ap (λ r. (r, other)) same ∙ sym (after_body h len body other is size))
 
 takes : (head : Option Head) (after rest : List ℕ) (reading : Reading) → (reading ≡ ended → ⊥) → (reading, rest) ≡ reading_after head after → Takes head after reading rest
 takes None after rest reading some e = takes_none None after rest reading H1 (λ other. refl) e
@@ -121,27 +128,14 @@ abbrev TakesBody : Option Head → List ℕ → List ℕ → Type 0
 TakesBody head after rest =
     (h : Head) × (body : List ℕ) × (head ≡ Some h) × (body_length h ≡ Ok (length body)) × (after ≡ body ++ rest)
 
-asks_body : (h : Head) (len : ℕ) (s : Bool) (after rest : List ℕ) (m : Message) → body_length h ≡ Ok len → nat_lt (length after) len ≡ s
-    → (request m, rest) ≡ reading_after (Some h) after → TakesBody (Some h) after rest
-asks_body h len true after rest m is p e =
-    let same : (request m, rest) ≡ (ended, []) = e ∙ ap (reading_by h after) is ∙ by_few h after len p in
-    absurd (request_not_ended m (first_is (request m, rest) (ended, []) same))
-asks_body h len false after rest m is p e =
-    let body = take len after in
-    let same : (request m, rest) ≡ (request (message h body), drop len after) = e ∙ ap (reading_by h after) is ∙ by_enough h after len p in (
-      h,
-      body,
-      refl,
-      is ∙ ap Ok (sym (length-take-le len after (enough (length after) len p))),
-      sym (take-append-drop len after) ∙ ap (λ r. body ++ r) (sym (second_is (request m, rest) (request (message h body), drop len after) same)),
-    )
-
 asks_by : (h : Head) (len : Result ℕ Code) (after rest : List ℕ) (m : Message) → body_length h ≡ len
     → (request m, rest) ≡ reading_after (Some h) after → TakesBody (Some h) after rest
 asks_by h (Err why) after rest m is e =
     let same : (request m, rest) ≡ (refused why, after) = e ∙ ap (reading_by h after) is in
     absurd (request_not_refused m why (first_is (request m, rest) (refused why, after) same))
-asks_by h (Ok len) after rest m is e = asks_body h len (nat_lt (length after) len) after rest m is refl e
+asks_by h (Ok len) after rest m is e =
+    let (body, size, split, same) = has_body h len (nat_lt (length after) len) after rest (request m) (request_not_ended m) is refl e in
+    (h, body, refl, is ∙ ap Ok (sym size), split)
 
 asks : (head : Option Head) (after rest : List ℕ) (m : Message) → (request m, rest) ≡ reading_after head after → TakesBody head after rest
 asks None after rest m e =

@@ -26,18 +26,6 @@ opened_or_large bytes opening after some e =
       | inr (inr (front, rest, split, always)) ↦ alike bytes front rest opening after (opened front) split always e
     ]
 
-opened_not_short : (front : List ℕ) → opened front ≡ short → ⊥
-opened_not_short front e = cc
-
-large_not_short : too_large ≡ short → ⊥
-large_not_short e = cc
-
-refused_not_ended : (why : Code) → refused why ≡ ended → ⊥
-refused_not_ended why e = cc
-
-request_not_ended : (head : Head) (body : List ℕ) → request (message head body) ≡ ended → ⊥
-request_not_ended head body e = cc
-
 front_in : Opening → List ℕ
 front_in (opened l) = l
 front_in short = []
@@ -48,21 +36,18 @@ splits : (bytes front after : List ℕ) → opening_of bytes ≡ (opened front, 
 unfolding front_in
 splits bytes front after e =
     elim (opens bytes) [
-      | inl ends ↦ absurd (opened_not_short front (λ i. ((sym e ∙ ends) i).0))
-      | inr (inl (f, r, split, always)) ↦ absurd (not_large front (λ i. ((sym e ∙ ap opening_of split ∙ always r) i).0))
+      | inl ends ↦ let q : opened front ≡ short = λ i. ((sym e ∙ ends) i).0 in cc
+      | inr (inl (f, r, split, always)) ↦ let q : opened front ≡ too_large = λ i. ((sym e ∙ ap opening_of split ∙ always r) i).0 in cc
       | inr (inr (f, r, split, always)) ↦
           let same : (opened f, r) ≡ (opened front, after) = sym (ap opening_of split ∙ always r) ∙ e in
           split ∙ (λ i. front_in ((same i).0) ++ (same i).1)
     ]
-  where
-    not_large : (l : List ℕ) → opened l ≡ too_large → ⊥
-    not_large l q = cc
 
 -- with too few bytes after a head that says how many follow the text ends early
 pub few : (bytes front after : List ℕ) (head : Head) (n : ℕ) → IsHeadOf front (Some head) → body_length head ≡ Ok n
     → opening_of bytes ≡ (opened front, after) → (more : List ℕ) → length (bytes ++ more) < length front + n → IsReading (bytes ++ more) ended []
 few bytes front after head n is len e more less =
-    let opening = opened_or_large bytes (opened front) after (opened_not_short front) e more in
+    let opening = opened_or_large bytes (opened front) after (λ q. cc) e more in
     let size : length (bytes ++ more) ≡ length front + length (after ++ more) = ap length (splits (bytes ++ more) front (after ++ more) opening) ∙ length-append front (after ++ more) in
     reading_ended front head n is len (bytes ++ more) (after ++ more) [] opening (omega (arith, size, less), refl)
 
@@ -70,14 +55,14 @@ few bytes front after head n is len e more less =
 pub enough : (bytes front after : List ℕ) (head : Head) (n : ℕ) → IsHeadOf front (Some head) → body_length head ≡ Ok n
     → opening_of bytes ≡ (opened front, after) → (more : List ℕ) → length front + n ≤ length (bytes ++ more) → IsWhole (bytes ++ more)
 enough bytes front after head n is len e more most =
-    let opening = opened_or_large bytes (opened front) after (opened_not_short front) e more in
+    let opening = opened_or_large bytes (opened front) after (λ q. cc) e more in
     let all = after ++ more in
     let size : length (bytes ++ more) ≡ length front + length all = ap length (splits (bytes ++ more) front all opening) ∙ length-append front all in
     let fits : n ≤ length all = omega (arith, size, most) in
     let body = take n all in (
       request (message head body),
       drop n all,
-      request_not_ended head body,
+      λ q. cc,
       reading_call front head n body is len (length-take-le n all fits) (bytes ++ more) all (drop n all) opening (sym (take-append-drop n all)),
     )
 
@@ -85,10 +70,10 @@ enough bytes front after head n is len e more most =
 pub head_refused : (bytes front after : List ℕ) (why : Code) → (head : Option Head) × IsHeadOf front head × Refuses head why
     → opening_of bytes ≡ (opened front, after) → (more : List ℕ) → IsWhole (bytes ++ more)
 head_refused bytes front after why how e more =
-    let opening = opened_or_large bytes (opened front) after (opened_not_short front) e more in
-    (refused why, after ++ more, refused_not_ended why, reading_refused front why how (bytes ++ more) (after ++ more) opening)
+    let opening = opened_or_large bytes (opened front) after (λ q. cc) e more in
+    (refused why, after ++ more, λ q. cc, reading_refused front why how (bytes ++ more) (after ++ more) opening)
 
 pub large_refused : (bytes after : List ℕ) → opening_of bytes ≡ (too_large, after) → (more : List ℕ) → IsWhole (bytes ++ more)
 large_refused bytes after e more =
-    let opening = opened_or_large bytes too_large after large_not_short e more in
-    (refused H2, after ++ more, refused_not_ended H2, reading_large H2 refl (bytes ++ more) (after ++ more) opening)
+    let opening = opened_or_large bytes too_large after (λ q. cc) e more in
+    (refused H2, after ++ more, λ q. cc, reading_large H2 refl (bytes ++ more) (after ++ more) opening)

@@ -103,8 +103,7 @@ fits-two r op names shape columns ss h =
     text-look (codes "n") (loose r.path) ss ∙ ap (λ ns. look (codes "n") ns ts) names ∙ ap (look (codes "n") (codes "id" ∷ codes "n" ∷ [])) q.2 in
     ap (λ o. with_route r o []) e ∙ put-is r (option_and_then (λ i. option_and_then (λ n. Some (op i n)) (id_in q.1)) (id_in q.0))
     ∙ two r.method r.fields r.body op columns (id_in q.0) (id_in q.1)
-    ∙ ap (λ z. with_two r.method op (number_at z) (id_in q.1)) (sym id)
-    ∙ ap (λ z. with_two r.method op (number_at (text_at (codes "id") (loose r.path) ss)) (number_at z)) (sym n)
+    ∙ (λ i. with_two r.method op (number_at (sym id i)) (number_at (sym n i)))
 
 -- a route with slots for three numbers
 fits-three : (r : Route) (op : ℕ → ℕ → ℕ → Operation (List ℕ)) → slot_names (loose r.path) ≡ codes "id" ∷ codes "n" ∷ codes "m" ∷ []
@@ -126,9 +125,7 @@ fits-three r op names shape columns ss h =
     let m : text_at (codes "m") (loose r.path) ss ≡ Some q.2 = at (codes "m") in
     ap (λ o. with_route r o []) e ∙ put-is r (option_and_then (λ i. option_and_then (λ n. option_and_then (λ k. Some (op i n k)) (id_in q.2)) (id_in q.1)) (id_in q.0))
     ∙ three r.method r.fields r.body op columns (id_in q.0) (id_in q.1) (id_in q.2)
-    ∙ ap (λ z. with_three r.method op (number_at z) (id_in q.1) (id_in q.2)) (sym id)
-    ∙ ap (λ z. with_three r.method op (number_at (text_at (codes "id") (loose r.path) ss)) (number_at z) (id_in q.2)) (sym n)
-    ∙ ap (λ z. with_three r.method op (number_at (text_at (codes "id") (loose r.path) ss)) (number_at (text_at (codes "n") (loose r.path) ss)) (number_at z)) (sym m)
+    ∙ (λ i. with_three r.method op (number_at (sym id i)) (number_at (sym n i)) (number_at (sym m i)))
 
 -- two routes with a slot for a number and one for a key
 fits-key : (of : ℕ → List ℕ → List (Method × Wanted)) (f g : ℕ → List ℕ → Operation (List ℕ)) (r s : Route) → slot_names (loose r.path) ≡ codes "id" ∷ codes "key" ∷ [] → loose s.path ≡ loose r.path
@@ -150,11 +147,7 @@ fits-key of f g r s names same shape shape2 joined ss h =
     text-look (codes "id") (loose r.path) ss ∙ ap (λ ns. look (codes "id") ns ts) names ∙ ap (look (codes "id") (codes "id" ∷ codes "key" ∷ [])) q.2 in
     let key : text_at (codes "key") (loose r.path) ss ≡ Some q.1 =
     text-look (codes "key") (loose r.path) ss ∙ ap (λ ns. look (codes "key") ns ts) names ∙ ap (look (codes "key") (codes "id" ∷ codes "key" ∷ [])) q.2 in
-    ap (λ o. with_route r o (with_route s (reads s.path s.operation ss) [])) e
-    ∙ ap (λ o. with_route r (option_and_then (λ i. Some (f i q.1)) (id_in q.0)) (with_route s o [])) e2
-    ∙ joined (id_in q.0) q.1
-    ∙ ap (λ z. with_key of (number_at z) (Some q.1)) (sym id)
-    ∙ ap (λ z. with_key of (number_at (text_at (codes "id") (loose r.path) ss)) z) (sym key)
+    (λ i. with_route r (e i) (with_route s (e2 i) [])) ∙ joined (id_in q.0) q.1 ∙ (λ i. with_key of (number_at (sym id i)) (sym key i))
 
 -- the routes of one pattern
 record Group : Type 0 where
@@ -285,93 +278,114 @@ unfolding routes
 variable-joined None u = refl
 variable-joined (Some i) u = refl
 
-fits-0 : Fits (alone 0 HealthCheck)
-unfolding routes
-fits-0 = fits-none (row 0) Health (λ ts. refl)
-
-fits-1 : Fits (alone 1 Queue)
-unfolding routes
-fits-1 = fits-none (row 1) AskJob (λ ts. refl)
-
-fits-2 : Fits (alone 2 AttemptTrace)
-unfolding routes
-fits-2 = fits-one (codes "n") (row 2) AppendTrace refl refl (λ t. refl) (λ n. refl)
-
-fits-3 : Fits (alone 3 Attempt)
-unfolding routes
-fits-3 = fits-one (codes "n") (row 3) UpdateJob refl refl (λ t. refl) (λ n. refl)
-
-fits-4 : Fits (alone 4 CiFile)
-unfolding routes
-fits-4 = fits-one (codes "id") (row 4) SetFile refl refl (λ t. refl) (λ n. refl)
-
-fits-5 : Fits (alone 5 JobAttemptTrace)
-unfolding routes
-fits-5 = fits-three (row 5) (λ i k l. Read i (Subject.Trace k l)) refl (λ t u v. refl) (λ i n k. refl)
-
-fits-6 : Fits (alone 6 JobAttempts)
-unfolding routes
-fits-6 = fits-two (row 6) (λ i k. Read i (Subject.Attempts k)) refl (λ t u. refl) (λ i n. refl)
-
-fits-7 : Fits (alone 7 JobCancel)
-unfolding routes
-fits-7 = fits-two (row 7) CancelJob refl (λ t u. refl) (λ i n. refl)
-
-fits-8 : Fits (alone 8 JobPlay)
-unfolding routes
-fits-8 = fits-two (row 8) Play refl (λ t u. refl) (λ i n. refl)
-
-fits-9 : Fits (alone 9 JobRetry)
-unfolding routes
-fits-9 = fits-two (row 9) RetryJob refl (λ t u. refl) (λ i n. refl)
-
-fits-10 : Fits (alone 10 JobTrace)
-unfolding routes
-fits-10 = fits-two (row 10) ShowTrace refl (λ t u. refl) (λ i n. refl)
-
-fits-11 : Fits (alone 11 Job)
-unfolding routes
-fits-11 = fits-two (row 11) ShowJob refl (λ t u. refl) (λ i n. refl)
-
-fits-12 : Fits (alone 12 PipelineCancel)
-unfolding routes
-fits-12 = fits-two (row 12) CancelPipeline refl (λ t u. refl) (λ i n. refl)
-
-fits-13 : Fits (alone 13 PipelineJobs)
-unfolding routes
-fits-13 = fits-two (row 13) (λ i k. Read i (Subject.Jobs k)) refl (λ t u. refl) (λ i n. refl)
-
-fits-14 : Fits (alone 14 Pipeline)
-unfolding routes
-fits-14 = fits-two (row 14) ShowPipeline refl (λ t u. refl) (λ i n. refl)
-
-fits-15 : Fits (alone 15 Pipelines)
-unfolding routes
-fits-15 = fits-one (codes "id") (row 15) (λ i. Read i Subject.Pipelines) refl refl (λ t. refl) (λ n. refl)
-
-fits-16 : Fits (alone 16 Creation)
-unfolding routes
-fits-16 = fits-one (codes "id") (row 16) CreatePipeline refl refl (λ t. refl) (λ n. refl)
-
-fits-17 : Fits (both 17 18 ResourceGroup)
-unfolding routes
-fits-17 = fits-key of_group ShowMode SetMode (row 17) (row 18) refl refl (λ t u. refl) (λ t u. refl) group-joined
-
-fits-19 : Fits (alone 19 ResourceGroups)
-unfolding routes
-fits-19 = fits-one (codes "id") (row 19) (λ i. Read i Subject.ResourceGroups) refl refl (λ t. refl) (λ n. refl)
-
-fits-20 : Fits (both 20 21 Variable)
-unfolding routes
-fits-20 = fits-key of_variable DeleteVariable SetVariable (row 20) (row 21) refl refl (λ t u. refl) (λ t u. refl) variable-joined
-
-fits-22 : Fits (alone 22 Project)
-unfolding routes
-fits-22 = fits-one (codes "id") (row 22) (λ i. Read i Subject.Project) refl refl (λ t. refl) (λ n. refl)
-
 good : Good groups
 unfolding routes
-good = (fits-0, (refl, tt), refl, (fits-1, (refl, tt), refl, (fits-2, (refl, tt), refl, (fits-3, (refl, tt), refl, (fits-4, (refl, tt), refl, (fits-5, (refl, tt), refl, (fits-6, (refl, tt), refl, (fits-7, (refl, tt), refl, (fits-8, (refl, tt), refl, (fits-9, (refl, tt), refl, (fits-10, (refl, tt), refl, (fits-11, (refl, tt), refl, (fits-12, (refl, tt), refl, (fits-13, (refl, tt), refl, (fits-14, (refl, tt), refl, (fits-15, (refl, tt), refl, (fits-16, (refl, tt), refl, (fits-17, (refl, (refl, tt)), refl, (fits-19, (refl, tt), refl, (fits-20, (refl, (refl, tt)), refl, (fits-22, (refl, tt), refl, tt)))))))))))))))))))))
+good = (
+  fits-none (row 0) Health (λ ts. refl),
+  (refl, tt),
+  refl,
+  (
+    fits-none (row 1) AskJob (λ ts. refl),
+    (refl, tt),
+    refl,
+    (
+      fits-one (codes "n") (row 2) AppendTrace refl refl (λ t. refl) (λ n. refl),
+      (refl, tt),
+      refl,
+      (
+        fits-one (codes "n") (row 3) UpdateJob refl refl (λ t. refl) (λ n. refl),
+        (refl, tt),
+        refl,
+        (
+          fits-one (codes "id") (row 4) SetFile refl refl (λ t. refl) (λ n. refl),
+          (refl, tt),
+          refl,
+          (
+            fits-three (row 5) (λ i k l. Read i (Subject.Trace k l)) refl (λ t u v. refl) (λ i n k. refl),
+            (refl, tt),
+            refl,
+            (
+              fits-two (row 6) (λ i k. Read i (Subject.Attempts k)) refl (λ t u. refl) (λ i n. refl),
+              (refl, tt),
+              refl,
+              (
+                fits-two (row 7) CancelJob refl (λ t u. refl) (λ i n. refl),
+                (refl, tt),
+                refl,
+                (
+                  fits-two (row 8) Play refl (λ t u. refl) (λ i n. refl),
+                  (refl, tt),
+                  refl,
+                  (
+                    fits-two (row 9) RetryJob refl (λ t u. refl) (λ i n. refl),
+                    (refl, tt),
+                    refl,
+                    (
+                      fits-two (row 10) ShowTrace refl (λ t u. refl) (λ i n. refl),
+                      (refl, tt),
+                      refl,
+                      (
+                        fits-two (row 11) ShowJob refl (λ t u. refl) (λ i n. refl),
+                        (refl, tt),
+                        refl,
+                        (
+                          fits-two (row 12) CancelPipeline refl (λ t u. refl) (λ i n. refl),
+                          (refl, tt),
+                          refl,
+                          (
+                            fits-two (row 13) (λ i k. Read i (Subject.Jobs k)) refl (λ t u. refl) (λ i n. refl),
+                            (refl, tt),
+                            refl,
+                            (
+                              fits-two (row 14) ShowPipeline refl (λ t u. refl) (λ i n. refl),
+                              (refl, tt),
+                              refl,
+                              (
+                                fits-one (codes "id") (row 15) (λ i. Read i Subject.Pipelines) refl refl (λ t. refl) (λ n. refl),
+                                (refl, tt),
+                                refl,
+                                (
+                                  fits-one (codes "id") (row 16) CreatePipeline refl refl (λ t. refl) (λ n. refl),
+                                  (refl, tt),
+                                  refl,
+                                  (
+                                    fits-key of_group ShowMode SetMode (row 17) (row 18) refl refl (λ t u. refl) (λ t u. refl) group-joined,
+                                    (refl, (refl, tt)),
+                                    refl,
+                                    (
+                                      fits-one (codes "id") (row 19) (λ i. Read i Subject.ResourceGroups) refl refl (λ t. refl) (λ n. refl),
+                                      (refl, tt),
+                                      refl,
+                                      (
+                                        fits-key of_variable DeleteVariable SetVariable (row 20) (row 21) refl refl (λ t u. refl) (λ t u. refl) variable-joined,
+                                        (refl, (refl, tt)),
+                                        refl,
+                                        (
+                                          fits-one (codes "id") (row 22) (λ i. Read i Subject.Project) refl refl (λ t. refl) (λ n. refl),
+                                          (refl, tt),
+                                          refl,
+                                          tt,
+                                        ),
+                                      ),
+                                    ),
+                                  ),
+                                ),
+                              ),
+                            ),
+                          ),
+                        ),
+                      ),
+                    ),
+                  ),
+                ),
+              ),
+            ),
+          ),
+        ),
+      ),
+    ),
+  ),
+)
 
 at-segments : (ss : List (List ℕ)) → routes_of routes ss ≡ by_pattern (first_of patterns ss) (text_of (codes "id") patterns ss) (text_of (codes "n") patterns ss) (text_of (codes "m") patterns ss) (text_of (codes "key") patterns ss)
 at-segments ss =
@@ -390,16 +404,7 @@ at-path (b ∷ p) =
     ]
 
 pub leads : (path : List ℕ) (place : Place) → LeadsTo path place → routes_at path ≡ routes_by place
-leads path place l =
-    let id = option_map (λ t. t.now) place.id in
-    let n = option_map (λ t. t.now) place.n in
-    let m = option_map (λ t. t.now) place.m in
-    at-path path
-    ∙ ap (λ z. by_pattern z (text_in (codes "id") patterns path) (text_in (codes "n") patterns path) (text_in (codes "m") patterns path) (text_in (codes "key") patterns path)) l.pattern
-    ∙ ap (λ z. routes_in place.pattern (number_at z) (number_at (text_in (codes "n") patterns path)) (number_at (text_in (codes "m") patterns path)) (text_in (codes "key") patterns path)) (sym l.id)
-    ∙ ap (λ z. routes_in place.pattern (number_at id) (number_at z) (number_at (text_in (codes "m") patterns path)) (text_in (codes "key") patterns path)) (sym l.n)
-    ∙ ap (λ z. routes_in place.pattern (number_at id) (number_at n) (number_at z) (text_in (codes "key") patterns path)) (sym l.m)
-    ∙ ap (λ z. routes_in place.pattern (number_at id) (number_at n) (number_at m) z) (sym l.key)
+leads path place l = at-path path ∙ (λ i. by_pattern (l.pattern i) (sym l.id i) (sym l.n i) (sym l.m i) (sym l.key i))
 
 pub leads-nowhere : (path : List ℕ) → pattern_in patterns path ≡ None → routes_at path ≡ []
 leads-nowhere path h =

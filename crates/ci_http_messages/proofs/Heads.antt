@@ -151,15 +151,9 @@ at_head v rest h fits =
     ∙ ap (λ f. at_end f (drop (length v) (v ++ rest))) (take-append_seam v rest)
     ∙ ap (at_end v) (drop-append_seam v rest)
 
-pub opening-head : (v rest : List ℕ) → head_len v ≡ Some (length v) → length v ≤ MAX_HEAD_BYTES
-    → nat_lt MAX_HEAD_LINES (count_by is_line_feed v) ≡ false → opening_of (v ++ rest) ≡ (opened v, rest)
-opening-head v rest h fits lines =
-    at_head v rest h fits ∙ ap (λ b. if b then (too_large, rest) else (opened v, rest)) lines
-
-pub opening-lines : (v rest : List ℕ) → head_len v ≡ Some (length v) → length v ≤ MAX_HEAD_BYTES
-    → nat_lt MAX_HEAD_LINES (count_by is_line_feed v) ≡ true → opening_of (v ++ rest) ≡ (too_large, rest)
-opening-lines v rest h fits lines =
-    at_head v rest h fits ∙ ap (λ b. if b then (too_large, rest) else (opened v, rest)) lines
+pub opening-front : (v rest : List ℕ) (many : Bool) → head_len v ≡ Some (length v) → length v ≤ MAX_HEAD_BYTES
+    → nat_lt MAX_HEAD_LINES (count_by is_line_feed v) ≡ many → opening_of (v ++ rest) ≡ (if many then (too_large, rest) else (opened v, rest))
+opening-front v rest many h fits lines = at_head v rest h fits ∙ ap (λ b. if b then (too_large, rest) else (opened v, rest)) lines
 
 none_in : (limit : ℕ) (v rest : List ℕ) → head_len v ≡ None → length v ≡ limit → head_len (take limit (v ++ rest)) ≡ None
 none_in limit v rest h e = ap (λ m. head_len (take m (v ++ rest))) (sym e) ∙ ap head_len (take-append_seam v rest) ∙ h
@@ -246,12 +240,12 @@ whole_read old mid new v w buf m n e t some room one got same test holds less =
 pub whole_head : (old new : Option (List ℕ)) (head : List ℕ) → Whole old new head → count_by is_line_feed head ≤ MAX_HEAD_LINES
     → Tells old new (λ bytes rest. opening_of bytes ≡ (opened head, rest))
 whole_head old new head w lines =
-    tells_from (λ bytes rest. opening_of bytes ≡ (opened head, rest)) old new head w.told (λ rest e. opening-head head rest w.found w.size (grind (arith, nat_tests, lines)))
+    tells_from (λ bytes rest. opening_of bytes ≡ (opened head, rest)) old new head w.told (λ rest e. opening-front head rest false w.found w.size (grind (arith, nat_tests, lines)))
 
 pub whole_lines : (old new : Option (List ℕ)) (head : List ℕ) → Whole old new head → MAX_HEAD_LINES < count_by is_line_feed head
     → Tells old new (λ bytes rest. opening_of bytes ≡ (too_large, rest))
 whole_lines old new head w lines =
-    tells_from (λ bytes rest. opening_of bytes ≡ (too_large, rest)) old new head w.told (λ rest e. opening-lines head rest w.found w.size (grind (arith, nat_tests, lines)))
+    tells_from (λ bytes rest. opening_of bytes ≡ (too_large, rest)) old new head w.told (λ rest e. opening-front head rest true w.found w.size (grind (arith, nat_tests, lines)))
 
 pub taken_all : (old new : Option (List ℕ)) (v : List ℕ) (n : ℕ) → Taken old new v n → n ≡ MAX_HEAD_BYTES
     → Tells old new (λ bytes rest. opening_of bytes ≡ (too_large, rest))

@@ -10,7 +10,6 @@ pub mod Codes
 pub mod Requests
 pub mod Allows
 mod Places
-mod Lengths
 pub mod Walks
 pub mod Firsts
 pub mod Splits

@@ -1,6 +1,8 @@
 -- What the parameters of a match take of a path.
-use Rattle.std.proofs.Common.{◌≡◌, ℕ, zero, suc, ◌+◌, ◌-◌, ◌<◌, ◌≤◌, List, [], ◌∷◌, length, drop, take, get_or, Bool, true, false, cond, refl, sym, ap, ◌∙◌, arith, ◌==◌, ltb, leb, ◌&&◌}
+use Rattle.std.proofs.Common.{◌≡◌, ℕ, zero, suc, ◌+◌, ◌-◌, ◌<◌, ◌≤◌, List, [], ◌∷◌, length, drop, take, get_or, Bool, true, false, cond, refl, sym, ap, ◌∙◌, arith, length-drop, ◌==◌, ltb, leb, ◌&&◌}
+use Rattle.std.proofs.lemmas.Bool.{le-ltb}
 use Rattle.std.proofs.lemmas.Bool.Decides.{nat_tests}
+use Rattle.std.proofs.lemmas.List.{drop-drop}
 use Rattle.matchit.specs.Params.{walk, wild_from, wild_stop, part_of, after_token}
 use Rattle.matchit.specs.Seek.{segment, has_slash}
 use Rattle.matchit.proofs.ParamsLemmas.{walk-next}
@@ -69,36 +71,13 @@ drop-get zero (y ∷ l) x r e = cc
 drop-get (suc n) [] x r e = cc
 drop-get (suc n) (y ∷ l) x r e = drop-get n l x r e
 
-drop-nil : {X : Type 0} (n : ℕ) → drop {A = X} n [] ≡ []
-drop-nil zero = refl
-drop-nil (suc n) = refl
-
-pub drop-more : {X : Type 0} (n m : ℕ) (l : List X) → drop (n + m) l ≡ drop m (drop n l)
-drop-more zero m l =
-    let z : 0 + m ≡ m = omega arith in
-    rw z refl
-drop-more {X} (suc n) m [] =
-    let e : (drop {A = X} (suc n + m) []) ≡ [] = drop-nil (suc n + m) in
-    e ∙ sym (drop-nil m)
-drop-more (suc n) m (x ∷ l) =
-    let e : suc n + m ≡ suc (n + m) = omega arith in
-    rw e (drop-more n m l)
-
 pub stop-end : (P A : List ℕ) (tok at : ℕ) → drop tok P ≡ 256 ∷ [] → wild_stop P tok A at ≡ length A
 stop-end P A tok at e =
     let d = drop-cons tok P 256 [] e in
-    let n : ltb (tok + 1) (length P) ≡ false = end-of (tok + 1) P d.0 in
+    let n : ltb (tok + 1) (length P) ≡ false = le-ltb (tok + 1) (length P) (omega (arith, ap length d.0, length-drop (tok + 1) P)) in
     let g : get_or P tok 0 ≡ 256 = drop-get tok P 256 [] e in
     let l : ltb tok (length P) ≡ true = grind (arith, nat_tests, d.1) in
     rw (l, g, n) refl
-  where
-    end-of : (n : ℕ) (l : List ℕ) → drop n l ≡ [] → ltb n (length l) ≡ false
-    end-of zero [] h = refl
-    end-of zero (x ∷ l) h = cc
-    end-of (suc n) [] h = grind (arith, nat_tests)
-    end-of (suc n) (x ∷ l) h =
-        let ih = end-of n l h in
-        grind (arith, nat_tests)
 
 pub stop-mid : (P A t p : List ℕ) (tok at : ℕ) → drop tok P ≡ 256 ∷ 47 ∷ t → drop at A ≡ p → has_slash p ≡ true → wild_stop P tok A at ≡ at + length (before p)
 stop-mid P A t p tok at e f s =
@@ -111,13 +90,9 @@ stop-mid P A t p tok at e f s =
     rw (l, g, n, d.0, f, before-segment p s) o
 
 length-drops : (at : ℕ) (A : List ℕ) → at ≤ length A → at + length (drop at A) ≡ length A
-length-drops zero A l = omega arith
-length-drops (suc at) [] l = absurd (omega arith)
-length-drops (suc at) (x ∷ A) l =
-    let ih = length-drops at A (omega arith) in
-    omega (arith, ih)
+length-drops at A l = omega (arith, length-drop at A)
 
-pub part-mid : (A p : List ℕ) (at n : ℕ) → drop at A ≡ p → at ≤ length A → n ≤ length p → part_of A at (at + n) ≡ take n p
+part-mid : (A p : List ℕ) (at n : ℕ) → drop at A ≡ p → at ≤ length A → n ≤ length p → part_of A at (at + n) ≡ take n p
 part-mid A p at n f w l =
     let ld = length-drops at A w in
     let q : at + length p ≡ length A = rw f at ld in
@@ -224,7 +199,7 @@ module _ (P T A : List ℕ) (short : length P < 18446744073709551615) where
       let ld = length-drops at A w in
       let g : at + length (b ∷ p) ≡ length A = rw f at ld in
       let le : at + m ≤ length A = omega (arith, g, before-le (b ∷ p)) in
-      let dn : drop (at + m) A ≡ after p = drop-more at m A ∙ ap (λ z. drop m z) f ∙ before-drop (b ∷ p) ∙ after-on b p k.0 in
+      let dn : drop (at + m) A ≡ after p = sym (drop-drop m at A) ∙ ap (λ z. drop m z) f ∙ before-drop (b ∷ p) ∙ after-on b p k.0 in
       let go = ih (after p) rest (tok + 1) (at + m) dp.0 dn le k.1 (and-r (opens t) _ d) n in
       ap seconds one ∙ ap (λ z. z ∷ seconds (walk P T A rest (tok + 1) (at + m))) part ∙ ap (λ z. before (b ∷ p) ∷ z) go
 

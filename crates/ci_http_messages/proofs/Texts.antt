@@ -1,12 +1,12 @@
 -- The slots of a pattern take the segments that stand at them, and these are texts.
-use Rattle.std.proofs.Common.{◌≡◌, ℕ, zero, suc, ◌<◌, List, [], ◌∷◌, length, drop, take, get_or, Bool, true, false, cond, refl, ◌∙◌, arith, ◌==◌, ltb, ◌&&◌}
+use Rattle.std.proofs.Common.{◌≡◌, ℕ, ◌<◌, List, [], ◌∷◌, length, drop, take, get_or, Bool, true, false, cond, refl, ◌∙◌, arith, ◌==◌, ltb, ◌&&◌}
 use Rattle.std.proofs.lemmas.Bool.Decides.{nat_tests}
 use Rattle.std.specs.Str.{IsUtf8}
 use Rattle.std.proofs.lemmas.Str.{IsUtf8-take, IsUtf8-drop, IsUtf8-nil, IsCharBoundary-before_ascii, IsCharBoundary-after_ascii}
 use Rattle.matchit.specs.Seek.{has_slash}
 use Rattle.ci_http_messages.specs.Prelude.{after, fits}
 use Rattle.ci_http_messages.proofs.Walks.{and-l, and-r, after-some, after-none}
-use Rattle.ci_http_messages.proofs.Takes.{before, taken, before-length, before-drop, before-all, drop-get}
+use Rattle.ci_http_messages.proofs.Takes.{before, taken, before-length, before-drop, before-all, drop-cons, drop-get}
 
 -- each of these is a text
 abbrev pub AllUtf8 : List (List ℕ) → Type 0
@@ -21,12 +21,6 @@ plain_tokens (x ∷ t) = cond (x == 256) (plain_tokens t) (ltb x 128 && plain_to
 pieces-utf8 : (p : List ℕ) → IsUtf8 p → IsUtf8 (before p) × IsUtf8 (after p)
 pieces-utf8 p u = by (has_slash p) refl
   where
-    inside : (n : ℕ) (l : List ℕ) (q : List ℕ) → drop n l ≡ 47 ∷ q → n < length l
-    inside zero [] q e = cc
-    inside zero (y ∷ l) q e = omega arith
-    inside (suc n) [] q e = cc
-    inside (suc n) (y ∷ l) q e = let ih = inside n l q e in omega (arith, ih)
-
     by : (v : Bool) → has_slash p ≡ v → IsUtf8 (before p) × IsUtf8 (after p)
     by true s =
         let q = after-some p s in
@@ -34,7 +28,7 @@ pieces-utf8 p u = by (has_slash p) refl
         let d : drop m p ≡ 47 ∷ q.0 = before-drop p ∙ q.1 in
         let g : get_or p m 0 ≡ 47 = drop-get m p 47 q.0 d in
         let l : get_or p m 0 < 128 = omega (arith, g) in
-        let b = IsCharBoundary-before_ascii p m (inside m p q.0 d) l in
+        let b = IsCharBoundary-before_ascii p m (drop-cons m p 47 q.0 d).1 l in
         let x : IsUtf8 (take m p) = IsUtf8-take p m u b in
         let y : IsUtf8 (drop m p) = IsUtf8-drop p m u b in
         (rw (before-length p) at x, rw (before-drop p) at y)

@@ -1,7 +1,7 @@
 use Rattle.std.proofs.Common.{take, drop, arith, subst, length-take-le}
 use Rattle.ci_http_messages.specs.Prelude.{head_at, IsOpening}
 use Rattle.ci_http_messages.proofs.Dues.{few, enough, head_refused, large_refused}
-use Rattle.ci_http_messages.proofs.Lengths.{body_within}
+use Rattle.ci_http_messages.proofs.Codes.{body_within}
 use Rattle.ci_http_messages.proofs.due.bytes_due.Goals as goal
 
 pub returns-in-TooLarge-clause-enough : goal.returns-in-TooLarge-clause-enough
