@@ -2,7 +2,7 @@
 
 use crate::admin::request_of;
 use crate::cause::say_unopened;
-use crate::file::{let_go, make, open, open_told};
+use crate::file::{make, with_server};
 use crate::journal::Journal;
 use crate::plan::plan;
 use crate::prune::prune;
@@ -99,16 +99,14 @@ fn init<O: Write, E: Write>(rt: &HostRuntime, file: &str, output: &mut O, errors
 
 /// Opens a server's file, by which one of version 1 is made one of version 2, and says which it was of.
 fn migrate<O: Write, E: Write>(rt: &HostRuntime, file: &str, output: &mut O, errors: &mut E) -> u8 {
-    match open(rt, file) {
-        Ok(server) => {
-            let line = if was_migrated(&server) {
-                Line::Migrated
-            } else {
-                Line::Current
-            };
-            let_go(server);
-            say(output, line)
-        }
+    match with_server(
+        rt,
+        file,
+        LogLevel::Nothing,
+        |server, _| was_migrated(server),
+    ) {
+        Ok(true) => say(output, Line::Migrated),
+        Ok(false) => say(output, Line::Current),
         Err(unopened) => say_unopened(output, errors, file, unopened),
     }
 }
@@ -121,12 +119,11 @@ fn send<C: Clock, R: RandomSource, O: Write, E: Write>(
     output: &mut O,
     errors: &mut E,
 ) -> u8 {
-    match open(rt, file) {
-        Ok(mut server) => {
-            let status = send_to(rt.alloc(), &mut server, asked, sources, output);
-            let_go(server);
-            status
-        }
+    let sent = with_server(rt, file, LogLevel::Nothing, |server, _| {
+        send_to(rt.alloc(), server, asked, sources, output)
+    });
+    match sent {
+        Ok(status) => status,
         Err(unopened) => say_unopened(output, errors, file, unopened),
     }
 }
@@ -158,17 +155,17 @@ fn serve<C: Clock, R: RandomSource, O: Write, E: Write>(
     errors: &mut E,
 ) -> u8 {
     let start = start_of_opening(options.log, sources.clock);
-    match open_told(rt, options.file, options.log) {
-        Ok((mut server, under_way)) => {
-            let journal = Journal::new(rt, options.file, options.log, errors);
-            let time = time_since(start, sources.clock);
-            journal.say_opened(was_migrated(&server), under_way, time);
-            journal.write();
-            let status = listen(rt, &mut server, options, sources, output, &journal);
-            journal.write();
-            let_go(server);
-            status
-        }
+    let served = with_server(rt, options.file, options.log, |server, under_way| {
+        let journal = Journal::new(rt, options.file, options.log, errors);
+        let time = time_since(start, sources.clock);
+        journal.say_opened(was_migrated(server), under_way, time);
+        journal.write();
+        let status = listen(rt, server, options, sources, output, &journal);
+        journal.write();
+        status
+    });
+    match served {
+        Ok(status) => status,
         Err(unopened) => say_unopened(output, errors, options.file, unopened),
     }
 }

@@ -101,43 +101,30 @@ impl Making {
     }
 }
 
-/// Opens the server's file at a path. One of version 1 is made one of version 2. Errors: why it isn't opened; a file that
-/// isn't there isn't made.
-pub fn open(rt: &HostRuntime, path: &str) -> Result<FileServer, Unopened> {
-    let conn = connect_to(rt, path)?;
-    over(rt, path, conn)
-}
-
-/// The same, and where it is to be told how many pipelines are under way, if that can be read.
-pub fn open_told(
+/// Opens the server's file at a path, has its server used, and lets it go. One of version 1 is made one of version 2. Where it is to be told, `work`
+/// gets how many pipelines are under way, if that can be read. Gives what `work` does. Errors: why the file isn't opened; one that isn't there isn't made.
+///
+/// All that a server answered is in its files already: closing joins the log with the file, and does no harm where that fails.
+pub fn with_server<T: Drop, F: FnOnce(&mut FileServer, Option<u64>) -> T + Drop>(
     rt: &HostRuntime,
     path: &str,
     log: LogLevel,
-) -> Result<(FileServer, Option<u64>), Unopened> {
+    work: F,
+) -> Result<T, Unopened>
+    requires { F.IsAlwaysCallable work }
+{
     let mut conn = connect_to(rt, path)?;
     let count = if log.has_events() {
         under_way(&mut conn)
     } else {
         None
     };
-    Ok((over(rt, path, conn)?, count))
-}
-
-/// How many pipelines have a job that is pending or running. None where that can't be read.
-fn under_way(conn: &mut Connection<FileStore<File>>) -> Option<u64> {
-    let row = conn.query_row(COUNT_UNDER_WAY, &[]).ok()?;
-    let count: i64 = row.get(0).ok()?;
-    u64::try_from(count).ok()
-}
-
-/// A server over the file that was opened at a path. Errors: why it can't be used.
-fn over(
-    rt: &HostRuntime,
-    path: &str,
-    conn: Connection<FileStore<File>>,
-) -> Result<FileServer, Unopened> {
     let fault = match Server::open(conn) {
-        Ok(server) => return Ok(server),
+        Ok(mut server) => {
+            let done = work(&mut server, count);
+            let _ = server.close().close();
+            return Ok(done);
+        }
         Err((fault, _)) => fault,
     };
     Err(Unopened {
@@ -146,10 +133,11 @@ fn over(
     })
 }
 
-/// Lets a server go. All that it answered is in its files already: closing joins the log with the file, and does no harm where
-/// that fails.
-pub fn let_go(server: FileServer) {
-    let _ = server.close().close();
+/// How many pipelines have a job that is pending or running. None where that can't be read.
+fn under_way(conn: &mut Connection<FileStore<File>>) -> Option<u64> {
+    let row = conn.query_row(COUNT_UNDER_WAY, &[]).ok()?;
+    let count: i64 = row.get(0).ok()?;
+    u64::try_from(count).ok()
 }
 
 /// Errors: why the file can't be used, also where it isn't there: it isn't made.

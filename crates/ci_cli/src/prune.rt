@@ -1,10 +1,11 @@
 //! The finished pipelines that were made before a moment go.
 
 use crate::cause::say_unopened;
-use crate::file::{let_go, open};
+use crate::file::with_server;
 use crate::server::ask;
 use crate::sources::Sources;
 use ci_cli_words::line::{DONE, say, say_reply};
+use ci_cli_words::task::LogLevel;
 use ci_http::Server;
 use ci_machine::moment::Moment;
 use ci_machine::records::MAX_NUMBER;
@@ -30,14 +31,12 @@ pub fn prune<C: Clock, R: RandomSource, O: Write, E: Write>(
     output: &mut O,
     errors: &mut E,
 ) -> u8 {
-    match open(rt, file) {
-        Ok(mut server) => {
-            let is_seen = rt.stderr().is_terminal();
-            let alloc = rt.alloc();
-            let status = prune_all(alloc, &mut server, before, sources, output, errors, is_seen);
-            let_go(server);
-            status
-        }
+    let pruned = with_server(rt, file, LogLevel::Nothing, |server, _| {
+        let is_seen = rt.stderr().is_terminal();
+        prune_all(rt.alloc(), server, before, sources, output, errors, is_seen)
+    });
+    match pruned {
+        Ok(status) => status,
         Err(unopened) => say_unopened(output, errors, file, unopened),
     }
 }

@@ -1,13 +1,13 @@
 //! What an operator is told of the server of a file.
 
 use crate::cause::say_unopened;
-use crate::file::{let_go, open};
+use crate::file::with_server;
 use ci_cli_words::line::{Line, say, say_report};
 use ci_cli_words::report::json::{pipeline_json, queue_json, runner_json};
 use ci_cli_words::report::pipeline::pipeline_report;
 use ci_cli_words::report::queue::queue_report;
 use ci_cli_words::report::runner::runner_report;
-use ci_cli_words::task::{ReportForm, ReportKind};
+use ci_cli_words::task::{LogLevel, ReportForm, ReportKind};
 use ci_http::Server;
 use ci_machine::reply::Code;
 use ci_machine::report::{PipelineRows, QueueRow, RunnerRow};
@@ -24,12 +24,11 @@ pub fn report<O: Write, E: Write>(
     output: &mut O,
     errors: &mut E,
 ) -> u8 {
-    match open(rt, file) {
-        Ok(mut server) => {
-            let told = text_of(rt.alloc(), &mut server, kind, form);
-            let_go(server);
-            print(told, output)
-        }
+    let told = with_server(rt, file, LogLevel::Nothing, |server, _| {
+        text_of(rt.alloc(), server, kind, form)
+    });
+    match told {
+        Ok(told) => print(told, output),
         Err(unopened) => say_unopened(output, errors, file, unopened),
     }
 }
