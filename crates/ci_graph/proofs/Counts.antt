@@ -1,6 +1,7 @@
 -- How often numbers stand in lists.
-use Rattle.std.proofs.Common.{◌≡◌, ◌⊎◌, ℕ, zero, suc, ◌+◌, ◌<◌, ◌≤◌, ◌==◌, Bool, true, false, cond, ◌||◌, List, [], ◌∷◌, ◌++◌, length, take, refl, sym, ap, ◌∙◌, arith, eqb-true, ⊎_elim, inl, inr}
+use Rattle.std.proofs.Common.{◌≡◌, ◌⊎◌, ℕ, zero, suc, ◌+◌, ◌<◌, ◌≤◌, ◌==◌, Bool, true, false, cond, ◌||◌, List, [], ◌∷◌, ◌++◌, length, take, filter, refl, sym, ap, ◌∙◌, arith, eqb-true, ⊎_elim, inl, inr}
 use Rattle.std.proofs.lemmas.Bool.{cond_both, eqb-false, eq-eqb}
+use Rattle.std.proofs.Math.Bool.{or-true}
 use Rattle.ci_graph.specs.Lists.{tally, times, is_among, number_at, once}
 
 joined_one : (b : Bool) (x y z : ℕ) → x ≡ y + z → cond b (suc x) x ≡ cond b (suc y) y + z
@@ -46,15 +47,11 @@ times_at i (x ∷ xs) l = ⊎_elim
     (λ m. let r : (k : ℕ) × (k < length xs) × (number_at xs k ≡ i) = times_at i xs m in (suc r.0, omega arith, r.2))
     (times_cases i x xs l)
 
-or_true : (a : Bool) → (a || true) ≡ true
-or_true true = refl
-or_true false = refl
-
 pub among_yes : (xs : List ℕ) (i : ℕ) → 0 < times i xs → is_among xs i ≡ true
 among_yes [] i l = absurd (omega arith)
 among_yes (x ∷ xs) i l = ⊎_elim
     (λ e. ap (λ (b : Bool). b || is_among xs i) (eq-eqb x i e))
-    (λ m. ap (λ (b : Bool). (x == i) || b) (among_yes xs i m) ∙ or_true (x == i))
+    (λ m. ap (λ (b : Bool). (x == i) || b) (among_yes xs i m) ∙ or-true (x == i))
     (times_cases i x xs l)
 
 pub among_no : (xs : List ℕ) (i : ℕ) → times i xs ≡ 0 → is_among xs i ≡ false
@@ -75,6 +72,14 @@ yes_among xs i e = ⊎_elim (λ z. absurd (let f : is_among xs i ≡ false = amo
 
 pub no_among : (xs : List ℕ) (i : ℕ) → is_among xs i ≡ false → times i xs ≡ 0
 no_among xs i e = ⊎_elim (λ z. z) (λ m. absurd (let f : is_among xs i ≡ true = among_yes xs i m in cc)) (times_or_none i xs)
+
+-- tests that agree of what stands in a list keep the same of it
+pub filter_members : (f g : ℕ → Bool) (xs : List ℕ) → ((x : ℕ) → 0 < times x xs → f x ≡ g x) → filter f xs ≡ filter g xs
+filter_members f g [] h = refl
+filter_members f g (x ∷ xs) h = both (f x) (g x) (h x (times_here x xs)) (filter_members f g xs (λ y l. h y (let m : times y xs ≤ times y (x ∷ xs) = times_more y x xs in omega arith)))
+  where
+    both : (a b : Bool) → a ≡ b → filter f xs ≡ filter g xs → cond a (x ∷ filter f xs) (filter f xs) ≡ cond b (x ∷ filter g xs) (filter g xs)
+    both a b e r = λ i. cond (e i) (x ∷ r i) (r i)
 
 pub once_few : (c : Bool) → once c ≤ 1
 once_few true = omega arith

@@ -1,12 +1,13 @@
 -- The queue: what taking the next position keeps, and what its end gives.
 use Rattle.std.proofs.Common.{◌≡◌, ℕ, zero, suc, ◌+◌, ◌-◌, ◌<◌, ◌≤◌, ◌==◌, Bool, true, false, cond, not, ◌||◌, List, [], ◌∷◌, ◌++◌, length, take, map, refl, sym, ap, ◌∙◌, arith, eqb-true, ⊎_elim, slice_set, filter, append_assoc, length-append}
 use Rattle.std.proofs.Math.ListN.{length-set}
-use Rattle.std.proofs.lemmas.Bool.{cond_both, eqb-false, eq-eqb, ne_eqb}
+use Rattle.std.proofs.lemmas.Bool.{cond_both, eqb-false, eq-eqb, ne_eqb, not-true, not-false}
+use Rattle.std.proofs.Math.Bool.{or-false, or_assoc}
 use Rattle.std.proofs.lemmas.List.{get_or-set_same, get_or-set_other, get_or-map, length-map, get_or_append_left, take-append-le, take_more, take_all, append-nil, ext_get_or}
 use Rattle.ci_graph.specs.Lists.{list_at, tally, times, is_among, number_at, IsOrder, once, IsStuck}
 use Rattle.ci_graph.specs.Pairs.{has_pair}
 use Rattle.ci_graph.proofs.Steps.{Neighbours, AreNeighbours, Progress, sources, released_one, released, IsReady}
-use Rattle.ci_graph.proofs.Counts.{times_push, times_here, times_more, times_same, times_cases, at_times, among_no, yes_among, no_among, once_few, once_yes, once_no, tally_none, tally_some, times_after, times_below, below_length, below_few, below_full, below_missing}
+use Rattle.ci_graph.proofs.Counts.{times_push, times_here, times_more, times_same, times_cases, at_times, among_no, yes_among, no_among, once_few, once_yes, once_no, tally_none, tally_some, times_after, filter_members, times_below, below_length, below_few, below_full, below_missing}
 
 -- while the successors ss of the position that was taken are still to be released
 record IsReleasing (n : ℕ) (wanted : ℕ → ℕ) (base : List ℕ) (ss : List ℕ) (t : Progress) : Type 0 where
@@ -16,18 +17,12 @@ record IsReleasing (n : ℕ) (wanted : ℕ → ℕ) (base : List ℕ) (ss : List
   pub queued : (i : ℕ) → i < n → times i t.queue ≡ once (number_at t.left i == 0)
   pub grown : (more : List ℕ) × (t.queue ≡ base ++ more)
 
-once_of : (b : Bool) → b ≡ true → once b ≡ 1
-once_of b e = ap once e
-
-once_not : (b : Bool) → b ≡ false → once b ≡ 0
-once_not b e = ap once e
-
 releasing_one : (n : ℕ) (wanted : ℕ → ℕ) (base : List ℕ) (s : ℕ) (ss : List ℕ) (t : Progress) → s < n → IsReleasing n wanted base (s ∷ ss) t → IsReleasing n wanted base ss (released_one s t)
 releasing_one n wanted base s ss t ls h =
     let v : ℕ = number_at t.left s - 1 in
     let lt : length t.left ≡ n = h.long in
     let more_than : 0 < number_at t.left s = let e : number_at t.left s ≡ wanted s + times s (s ∷ ss) = h.numbers s ls in let b : 0 < times s (s ∷ ss) = times_here s ss in omega arith in
-    let absent : times s t.queue ≡ 0 = h.queued s ls ∙ once_not (number_at t.left s == 0) (ne_eqb (number_at t.left s) 0 (λ (e : number_at t.left s ≡ 0). omega arith)) in
+    let absent : times s t.queue ≡ 0 = h.queued s ls ∙ ap once (ne_eqb (number_at t.left s) 0 (λ (e : number_at t.left s ≡ 0). omega arith)) in
     let set_here : number_at (slice_set t.left s v) s ≡ v = get_or-set_same t.left s v 0 (omega arith) in
     let set_other : (i : ℕ) → (i ≡ s → ⊥) → number_at (slice_set t.left s v) i ≡ number_at t.left i = λ (i : ℕ) (d : i ≡ s → ⊥). get_or-set_other t.left s i v 0 d in
     record {
@@ -35,7 +30,7 @@ releasing_one n wanted base s ss t ls h =
       inside = cond_both (v == 0) (t.queue ++ s ∷ []) t.queue (λ (q : List ℕ). (x : ℕ) → 0 < times x q → x < n)
           (λ e x l. cond_both (s == x) 0 0 (λ (_ : ℕ). x < n)
           (λ c. let q : s ≡ x = eqb-true s x c in omega arith)
-          (λ c. h.inside x (let p : times x (t.queue ++ s ∷ []) ≡ times x t.queue + once (s == x) = times_push x s t.queue in let z : once (s == x) ≡ 0 = once_not (s == x) c in omega arith)))
+          (λ c. h.inside x (let p : times x (t.queue ++ s ∷ []) ≡ times x t.queue + once (s == x) = times_push x s t.queue in let z : once (s == x) ≡ 0 = ap once c in omega arith)))
           (λ e x l. h.inside x l);
       numbers = λ i l. cond_both (s == i) (suc (times i ss)) (times i ss) (λ (m : ℕ). number_at t.left i ≡ wanted i + m → number_at (slice_set t.left s v) i ≡ wanted i + times i ss)
           (λ c e. let q : s ≡ i = eqb-true s i c in
@@ -48,12 +43,12 @@ releasing_one n wanted base s ss t ls h =
           (λ c. let q : s ≡ i = eqb-true s i c in
           ap (λ (k : ℕ). times k (released_one s t).queue) (sym q)
           ∙ (cond_both (v == 0) (t.queue ++ s ∷ []) t.queue (λ (qs : List ℕ). times s qs ≡ once (v == 0))
-          (λ e. times_push s s t.queue ∙ (let a : once (s == s) ≡ 1 = once_of (s == s) (eq-eqb s s refl) in let b : once (v == 0) ≡ 1 = once_of (v == 0) e in omega arith))
-          (λ e. absent ∙ sym (once_not (v == 0) e))
+          (λ e. times_push s s t.queue ∙ (let a : once (s == s) ≡ 1 = ap once (eq-eqb s s refl) in let b : once (v == 0) ≡ 1 = ap once e in omega arith))
+          (λ e. absent ∙ sym (ap once e))
           ∙ ap (λ (k : ℕ). once (k == 0)) (sym (ap (λ (k : ℕ). number_at (slice_set t.left s v) k) (sym q) ∙ set_here))))
           (λ c. let d : times i (released_one s t).queue ≡ times i t.queue
           = cond_both (v == 0) (t.queue ++ s ∷ []) t.queue (λ (qs : List ℕ). times i qs ≡ times i t.queue)
-          (λ e. times_push i s t.queue ∙ (let z : once (s == i) ≡ 0 = once_not (s == i) c in omega arith))
+          (λ e. times_push i s t.queue ∙ (let z : once (s == i) ≡ 0 = ap once c in omega arith))
           (λ e. refl) in
           d ∙ (h.queued i l ∙ ap (λ (k : ℕ). once (k == 0)) (sym (set_other i (λ (q : i ≡ s). eqb-false s i c (sym q))))));
       grown = cond_both (v == 0) (t.queue ++ s ∷ []) t.queue (λ (qs : List ℕ). (more : List ℕ) × (qs ≡ base ++ more))
@@ -89,13 +84,6 @@ released_left (s ∷ ss) t inside i =
 -- whether a number goes down to none
 abbrev empties : List ℕ → ℕ → Bool
 empties left s = number_at left s - 1 == 0
-
-filter_members : (f g : ℕ → Bool) (xs : List ℕ) → ((x : ℕ) → 0 < times x xs → f x ≡ g x) → filter f xs ≡ filter g xs
-filter_members f g [] h = refl
-filter_members f g (x ∷ xs) h = both (f x) (g x) (h x (times_here x xs)) (filter_members f g xs (λ y l. h y (let m : times y xs ≤ times y (x ∷ xs) = times_more y x xs in omega arith)))
-  where
-    both : (a b : Bool) → a ≡ b → filter f xs ≡ filter g xs → cond a (x ∷ filter f xs) (filter f xs) ≡ cond b (x ∷ filter g xs) (filter g xs)
-    both a b e r = λ i. cond (e i) (x ∷ r i) (r i)
 
 released_queue : (ss : List ℕ) (t : Progress) → ((k : ℕ) → k < length ss → number_at ss k < length t.left) → ((i : ℕ) → times i ss ≤ 1) → (released ss t).queue ≡ t.queue ++ filter (empties t.left) ss
 released_queue [] t inside few = sym (append-nil t.queue)
@@ -140,16 +128,8 @@ one_less false true x y z m h e = omega arith
 one_less false false x y z m h e = omega arith
 
 among_or : (xs : List ℕ) (j x : ℕ) → is_among (xs ++ j ∷ []) x ≡ (is_among xs x || (j == x))
-among_or [] j x = or_false (j == x)
-  where
-    or_false : (b : Bool) → (b || false) ≡ b
-    or_false true = refl
-    or_false false = refl
-among_or (y ∷ xs) j x = ap (λ (b : Bool). (y == x) || b) (among_or xs j x) ∙ or_assoc (y == x) (is_among xs x) (j == x)
-  where
-    or_assoc : (a b c : Bool) → (a || (b || c)) ≡ ((a || b) || c)
-    or_assoc true b c = refl
-    or_assoc false b c = refl
+among_or [] j x = or-false (j == x)
+among_or (y ∷ xs) j x = ap (λ (b : Bool). (y == x) || b) (among_or xs j x) ∙ sym (or_assoc (y == x) (is_among xs x) (j == x))
 
 eq_sym : (a b : ℕ) → (a == b) ≡ (b == a)
 eq_sym a b = cond_both (a == b) 0 0 (λ (_ : ℕ). (a == b) ≡ (b == a))
@@ -187,14 +167,7 @@ before_at n predecessors k t h l i m =
     let e : times j t.queue ≡ once (number_at t.left j == 0) = h.queued j lj in
     let z : (number_at t.left j == 0) ≡ true = once_yes (number_at t.left j == 0) (omega arith) in
     let none : tally (λ p. not (is_among (take k t.queue) p)) (list_at predecessors j) ≡ 0 = sym (h.numbers j lj) ∙ eqb-true (number_at t.left j) 0 z in
-    yes_among (take k t.queue) i (not_false (is_among (take k t.queue) i) (tally_none (λ p. not (is_among (take k t.queue) p)) (list_at predecessors j) none i m))
-  where
-    not_false : (b : Bool) → not b ≡ false → b ≡ true
-    not_false true e = refl
-    not_false false e = absurd (cc)
-
-take_grown : (base more : List ℕ) (k : ℕ) → k ≤ length base → take k (base ++ more) ≡ take k base
-take_grown base more k l = take-append-le k base more l
+    yes_among (take k t.queue) i (not-false (is_among (take k t.queue) i) (tally_none (λ p. not (is_among (take k t.queue) p)) (list_at predecessors j) none i m))
 
 -- taking the k-th position
 pub ready_more : (n : ℕ) (pairs : List (ℕ × ℕ)) (predecessors successors : List (List ℕ)) (k : ℕ) (t after : Progress) → AreNeighbours n pairs (record { predecessors = predecessors; successors = successors }) → IsReady n predecessors k t → k < length t.queue
@@ -219,7 +192,7 @@ ready_more n pairs predecessors successors k t after neighbours h l e = rw e (
     }) in
     let g : List ℕ = f.grown.0 in
     let grows : (released ss t).queue ≡ t.queue ++ g = f.grown.1 in
-    let same : (m : ℕ) → m ≤ length t.queue → take m (released ss t).queue ≡ take m t.queue = λ (m : ℕ) (b : m ≤ length t.queue). ap (λ (qs : List ℕ). take m qs) grows ∙ take_grown t.queue g m b in
+    let same : (m : ℕ) → m ≤ length t.queue → take m (released ss t).queue ≡ take m t.queue = λ (m : ℕ) (b : m ≤ length t.queue). ap (λ (qs : List ℕ). take m qs) grows ∙ take-append-le m t.queue g b in
     record {
       long = f.long;
       taken = let b : length (t.queue ++ g) ≡ length t.queue + length g = length-append t.queue g in let c : length (released ss t).queue ≡ length (t.queue ++ g) = ap length grows in omega arith;
@@ -249,9 +222,9 @@ sources_times (x ∷ xs) k i zero q l =
     let r : times i (sources (k + 1) xs) ≡ 0 = sources_low xs (k + 1) i (omega arith) in
     cond_both (x == 0) (k ∷ sources (k + 1) xs) (sources (k + 1) xs) (λ (ys : List ℕ). times i ys ≡ once (x == 0))
     (λ e. cond_both (k == i) (suc (times i (sources (k + 1) xs))) (times i (sources (k + 1) xs)) (λ (n : ℕ). n ≡ once (x == 0))
-    (λ c. let o : once (x == 0) ≡ 1 = once_of (x == 0) e in omega arith)
+    (λ c. let o : once (x == 0) ≡ 1 = ap once e in omega arith)
     (λ c. absurd (eqb-false k i c (omega arith))))
-    (λ e. r ∙ sym (once_not (x == 0) e))
+    (λ e. r ∙ sym (ap once e))
 sources_times (x ∷ xs) k i (suc m) q l =
     let r : times i (sources (k + 1) xs) ≡ once (number_at xs m == 0) = sources_times xs (k + 1) i m (omega arith) (omega arith) in
     cond_both (x == 0) (k ∷ sources (k + 1) xs) (sources (k + 1) xs) (λ (ys : List ℕ). times i ys ≡ once (number_at xs m == 0))
@@ -316,12 +289,8 @@ ready_stuck n predecessors k t h lk lq =
           let d : number_at t.left j ≡ 0 → ⊥ = eqb-false (number_at t.left j) 0 (once_no (number_at t.left j == 0) e) in
           let m : number_at t.left j ≡ tally (λ p. not (is_among t.queue p)) (list_at predecessors j) = h.numbers j lj ∙ ap (λ (qs : List ℕ). tally (λ p. not (is_among qs p)) (list_at predecessors j)) whole in
           let r : (p : ℕ) × (0 < times p (list_at predecessors j)) × (not (is_among t.queue p) ≡ true) = tally_some (λ p. not (is_among t.queue p)) (list_at predecessors j) (omega arith) in
-          (r.0, r.1, no_among t.queue r.0 (not_true (is_among t.queue r.0) r.2));
+          (r.0, r.1, no_among t.queue r.0 (not-true (is_among t.queue r.0) r.2));
     }
-  where
-    not_true : (b : Bool) → not b ≡ true → b ≡ false
-    not_true true e = absurd (cc)
-    not_true false e = refl
 
 -- the position to be taken is one of the n
 pub taken_inside : (n : ℕ) (predecessors : List (List ℕ)) (k : ℕ) (t : Progress) → IsReady n predecessors k t → k < length t.queue → number_at t.queue k < n
