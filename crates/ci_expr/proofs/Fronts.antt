@@ -1,122 +1,107 @@
--- What is read at the front is a token.
-use Rattle.std.proofs.Common.{◌≡◌, ℕ, zero, suc, ◌+◌, ◌<◌, ◌≤◌, Bool, true, false, cond, List, [], ◌∷◌, ◌++◌, length, take, drop, get_or, Option, Some, None, option_map, Result}
-use Rattle.std.proofs.Common.{Ok, Err, IfOk, refl, sym, ◌∙◌, ap, subst, arith, append_assoc, take-suc, get_or-drop, take_all, ◌-◌, IsCharBoundary, IsUtf8, ◌==◌, ◌&&◌, ◌||◌, codes}
-use Rattle.std.proofs.Common.{nat_le, unwrap_or}
-use Rattle.std.proofs.lemmas.Bool.{eqb-true}
-use Rattle.std.proofs.lemmas.List.{length-drop}
-use Rattle.std.proofs.lemmas.Str.{IsCharBoundary-after_ascii}
+-- What is read at the front is a token, or what stops there.
+use Rattle.std.proofs.Common.{◌≡◌, ℕ, zero, suc, ◌+◌, ◌-◌, ◌<◌, ◌≤◌, Bool, true, false, cond, List, [], ◌∷◌, ◌++◌, length, take, drop, get_or, Option, Some, None, option_map}
+use Rattle.std.proofs.Common.{Result, Ok, Err, IfOk, refl, sym, ◌∙◌, ap, subst, arith, append_assoc, take-suc, IsCharBoundary, IsUtf8, ◌==◌, ◌||◌, ◌&&◌, nat_le}
+use Rattle.std.proofs.lemmas.Bool.{eqb-true, cond_both, cond-false}
 use Rattle.std.proofs.lemmas.Bool.Decides.{nat_tests}
-use Rattle.ci_expr.specs.Prelude.{ExprCode, ExprFault, Gives, Kind, Name, Text, Null, Unequal, Match, Mismatch, And, Or, Left, Right, word_length, until, body_length, name_front}
-use Rattle.ci_expr.specs.Prelude.{text_by, pattern_by, null_front, lexeme, starts_word, is_word, AreWord, EndsWord, Lacks, IsMark, IsBody, empty, plain, pair, IsFlag, Spells}
-use Rattle.ci_expr.specs.Prelude.{IsFront}
+use Rattle.std.proofs.lemmas.List.{length-drop, get_or-drop, take_rest}
+use Rattle.std.proofs.lemmas.Str.{IsCharBoundary-after_ascii}
+use Rattle.ci_expr.specs.Prelude.{ExprCode, X2, X3, ExprFault, Gives, Kind, Name, Text, Null, Unequal, Match, Mismatch, And, Or, word_length, until, escapes, body_length}
+use Rattle.ci_expr.specs.Prelude.{name_front, text_by, pattern_by, null_front, lexeme, starts_word, is_word, AreWord, EndsWord, Lacks, IsMark, IsBody, empty, plain, pair, IsFlag}
+use Rattle.ci_expr.specs.Prelude.{Spells, IsFront, StaysOpen, quote, pattern}
 use Rattle.ci_expr.specs.declared.token.Kind.TheVariants.{Equal, Pattern}
 
-pub split : {A : Type 0} (t : Bool) (x y r : A) (P : Type 0) → cond t x y ≡ r → (t ≡ true → x ≡ r → P) → (t ≡ false → y ≡ r → P) → P
-split true x y r P h f g = f refl h
-split false x y r P h f g = g refl h
-
-abbrev Front : Type 0
+abbrev pub Front : Type 0
 Front = Result (Kind × ℕ) ExprCode
 
-abbrev value_of : Front → Kind × ℕ → Kind × ℕ
-value_of (Ok x) d = x
-value_of (Err e) d = d
+-- X2, or X3 where something stays open
+abbrev pub IsFrontFault : List ℕ → ExprCode → Type 0
+IsFrontFault bs X2 = Unit {0}
+IsFrontFault bs X3 = StaysOpen bs
+IsFrontFault bs _ = ⊥
 
-abbrev SameOk : Front → Kind × ℕ → Type 0
-SameOk r y = r ≡ Ok y
+-- a token stands at the front, or such a fault
+abbrev pub Fits : List ℕ → Front → Type 0
+Fits bs (Ok x) = IsFront bs x
+Fits bs (Err x) = IsFrontFault bs x
 
-ok-same : (x y : Kind × ℕ) → SameOk (Ok x) y → x ≡ y
-ok-same x y e = ap (λ r. value_of r x) e
-
-abbrev SameSome : Option ℕ → ℕ → Type 0
-SameSome o n = o ≡ Some n
-
-some-same : (x y : ℕ) → SameSome (Some x) y → x ≡ y
-some-same x y e = ap (λ o. unwrap_or o x) e
+-- X2 where a test fails
+where-true : (bs : List ℕ) (t : Bool) (r : Front) → (t ≡ true → Fits bs r) → Fits bs (cond t r (Err X2))
+where-true bs t r h = cond_both t r (Err X2) (Fits bs) h (λ _. tt)
 
 -- ---- words
-word-le : (bs : List ℕ) → word_length bs ≤ length bs
-word-le [] = omega arith
-word-le (b ∷ bs) = by_case (is_word b) (word-le bs)
-  where
-    by_case : (t : Bool) → word_length bs ≤ length bs → cond t (suc (word_length bs)) 0 ≤ length (b ∷ bs)
-    by_case true le = omega (arith, le)
-    by_case false le = omega arith
+record HasWord (bs : List ℕ) (n : ℕ) : Type 0 where
+  pub le : n ≤ length bs
+  pub all : AreWord (take n bs)
+  pub ends : EndsWord (drop n bs)
 
-words : (bs : List ℕ) → AreWord (take (word_length bs) bs)
-words [] = tt
-words (b ∷ bs) = by_case (is_word b) refl (words bs)
-  where
-    by_case : (t : Bool) → is_word b ≡ t → AreWord (take (word_length bs) bs) → AreWord (take (cond t (suc (word_length bs)) 0) (b ∷ bs))
-    by_case true e rest = (e, rest)
-    by_case false e rest = tt
-
-words-end : (bs : List ℕ) → EndsWord (drop (word_length bs) bs)
-words-end [] = tt
-words-end (b ∷ bs) = by_case (is_word b) refl (words-end bs)
-  where
-    by_case : (t : Bool) → is_word b ≡ t → EndsWord (drop (word_length bs) bs) → EndsWord (drop (cond t (suc (word_length bs)) 0) (b ∷ bs))
-    by_case true e rest = rest
-    by_case false e rest = e
+words : (bs : List ℕ) → HasWord bs (word_length bs)
+words [] = record { le = omega arith; all = tt; ends = tt }
+words (b ∷ bs) = let w = words bs in cond_both (is_word b) (suc (word_length bs)) 0 (HasWord (b ∷ bs))
+    (λ e. record { le = omega (arith, w.le); all = (e, w.all); ends = w.ends })
+    (λ e. record { le = omega arith; all = tt; ends = e })
 
 pub start-word : (b : ℕ) → starts_word b ≡ true → is_word b ≡ true
 start-word b e = ap (λ t. t || (nat_le 48 b && nat_le b 57)) e
 
-abbrev front_name : ℕ → Front
-front_name n = Ok (Name, suc n)
-
-name-is : (b : ℕ) (bs : List ℕ) (x : Kind × ℕ) → b ≡ 36 → SameOk (name_front bs) x → IsFront (b ∷ bs) x
-name-is b [] x is h = absurd cc
-name-is b (c ∷ cs) x is h = split (starts_word c) _ _ _ _ h
-    (λ e g. subst (IsFront (b ∷ c ∷ cs)) (ok-same _ _ (ap (λ t. front_name (cond t (suc (word_length cs)) 0)) (sym (start-word c e)) ∙ g))
-    (omega (arith, word-le cs), (c, take (word_length cs) cs, ap (λ y. y ∷ c ∷ take (word_length cs) cs) is, e, words cs, words-end cs)))
-    (λ e g. absurd cc)
+name-fits : (bs : List ℕ) → Fits (36 ∷ bs) (name_front bs)
+name-fits [] = tt
+name-fits (c ∷ cs) = let w = words cs in where-true (36 ∷ c ∷ cs) (starts_word c) _
+    (λ e. subst (λ t. IsFront (36 ∷ c ∷ cs) (Name, suc (cond t (suc (word_length cs)) 0))) (sym (start-word c e))
+    (omega (arith, w.le), (c, take (word_length cs) cs, refl, e, w.all, w.ends)))
 
 -- ---- texts
-pub more : (o : Option ℕ) (n : ℕ) → option_map suc o ≡ Some n → (m : ℕ) × (o ≡ Some m) × (n ≡ suc m)
-more None n e = absurd cc
-more (Some m) n e = (m, refl, sym (some-same _ _ e))
+abbrev IsUntil : ℕ → List ℕ → Option ℕ → Type 0
+IsUntil q bs None = Lacks q bs
+IsUntil q bs (Some n) = (n < length bs) × (take (suc n) bs ≡ take n bs ++ q ∷ []) × Lacks q (take n bs)
 
-pub record IsUntil (q : ℕ) (bs : List ℕ) (n : ℕ) : Type 0 where
-  pub lt : n < length bs
-  pub cut : take (suc n) bs ≡ take n bs ++ q ∷ []
-  pub lacks : Lacks q (take n bs)
+until-is : (q : ℕ) (bs : List ℕ) → IsUntil q bs (until q bs)
+until-is q [] = tt
+until-is q (b ∷ bs) = cond_both (b == q) (Some 0) (option_map suc (until q bs)) (IsUntil q (b ∷ bs))
+    (λ is. (omega arith, ap (λ y. y ∷ []) (eqb-true b q is), tt))
+    (λ other. more other (until q bs) (until-is q bs))
+  where
+    more : (b == q) ≡ false → (o : Option ℕ) → IsUntil q bs o → IsUntil q (b ∷ bs) (option_map suc o)
+    more other None lacks = (other, lacks)
+    more other (Some n) (lt, cut, lacks) = (omega (arith, lt), ap (λ ys. b ∷ ys) cut, (other, lacks))
 
-pub until-is : (q : ℕ) (bs : List ℕ) (n : ℕ) → until q bs ≡ Some n → IsUntil q bs n
-until-is q [] n e = absurd cc
-until-is q (b ∷ bs) n e = split (b == q) _ _ _ _ e
-    (λ is g. subst (IsUntil q (b ∷ bs)) (some-same _ _ g) (record { lt = omega arith; cut = ap (λ y. y ∷ []) (eqb-true b q is); lacks = tt }))
-    (λ other g. let m = more (until q bs) n g in let w = until-is q bs m.0 m.1 in
-    subst (IsUntil q (b ∷ bs)) (sym m.2) (record { lt = omega (arith, w.lt); cut = ap (λ ys. b ∷ ys) w.cut; lacks = (other, w.lacks) }))
-
-text-is : (b q : ℕ) (bs : List ℕ) (x : Kind × ℕ) → b ≡ q → IsMark q → (o : Option ℕ) → until q bs ≡ o → text_by o ≡ Ok x → IsFront (b ∷ bs) x
-text-is b q bs x is mark None e h = absurd cc
-text-is b q bs x is mark (Some n) e h = let w = until-is q bs n e in
-    subst (IsFront (b ∷ bs)) (ok-same _ _ h)
-    (omega (arith, w.lt), (q, take n bs, ap (λ y. y ∷ take (suc n) bs) is ∙ ap (λ ys. q ∷ ys) w.cut, mark, w.lacks))
+text-fits : (q : ℕ) (bs : List ℕ) → IsMark q → Fits (q ∷ bs) (text_by (until q bs))
+text-fits q bs mark = by-end (until q bs) (until-is q bs)
+  where
+    by-end : (o : Option ℕ) → IsUntil q bs o → Fits (q ∷ bs) (text_by o)
+    by-end None lacks = quote q bs mark lacks
+    by-end (Some n) (lt, cut, lacks) = (omega (arith, lt), (q, take n bs, ap (λ ys. q ∷ ys) cut, mark, lacks))
 
 -- ---- patterns
-abbrev pub IsRest : Bool → List ℕ → Type 0
+abbrev IsRest : Bool → List ℕ → Type 0
 IsRest true bs = IsBody (92 ∷ bs)
 IsRest false bs = IsBody bs
 
-pub record IsEnd (escaped : Bool) (bs : List ℕ) (n : ℕ) : Type 0 where
-  pub lt : n < length bs
-  pub cut : take (suc n) bs ≡ take n bs ++ 47 ∷ []
-  pub body : IsRest escaped (take n bs)
+abbrev pub IsEnd : Bool → List ℕ → Option ℕ → Type 0
+IsEnd escaped bs None = Unit {0}
+IsEnd escaped bs (Some n) = (n < length bs) × (take (suc n) bs ≡ take n bs ++ 47 ∷ []) × IsRest escaped (take n bs)
 
 rest-more : (b : ℕ) (bs : List ℕ) (t : Bool) → (b == 92) ≡ t → (b == 47) ≡ false → IsRest t bs → IsBody (b ∷ bs)
 rest-more b bs true e other r = subst (λ y. IsBody (y ∷ bs)) (sym (eqb-true b 92 e)) r
 rest-more b bs false e other r = plain b bs other e r
 
-pub body-is : (escaped : Bool) (bs : List ℕ) (n : ℕ) → body_length escaped bs ≡ Some n → IsEnd escaped bs n
-body-is escaped [] n e = absurd cc
-body-is true (b ∷ bs) n e = let m = more (body_length false bs) n e in let w = body-is false bs m.0 m.1 in
-    subst (IsEnd true (b ∷ bs)) (sym m.2) (record { lt = omega (arith, w.lt); cut = ap (λ ys. b ∷ ys) w.cut; body = pair b _ w.body })
-body-is false (b ∷ bs) n e = split (b == 47) _ _ _ _ e
-    (λ is g. subst (IsEnd false (b ∷ bs)) (some-same _ _ g) (record { lt = omega arith; cut = ap (λ y. y ∷ []) (eqb-true b 47 is); body = empty }))
-    (λ other g. let m = more (body_length (b == 92) bs) n g in let w = body-is (b == 92) bs m.0 m.1 in
-    subst (IsEnd false (b ∷ bs)) (sym m.2) (record { lt = omega (arith, w.lt); cut = ap (λ ys. b ∷ ys) w.cut; body = rest-more b _ (b == 92) refl other w.body }))
+end-more : (e f : Bool) (b : ℕ) (bs : List ℕ) → ((ys : List ℕ) → IsRest e ys → IsRest f (b ∷ ys)) → (o : Option ℕ) → IsEnd e bs o → IsEnd f (b ∷ bs) (option_map suc o)
+end-more e f b bs rest None w = tt
+end-more e f b bs rest (Some n) (lt, cut, body) = (omega (arith, lt), ap (λ ys. b ∷ ys) cut, rest (take n bs) body)
+
+pub body-is : (escaped : Bool) (bs : List ℕ) → IsEnd escaped bs (body_length escaped bs)
+body-is escaped [] = tt
+body-is true (b ∷ bs) = end-more false true b bs (λ ys w. pair b ys w) (body_length false bs) (body-is false bs)
+body-is false (b ∷ bs) = cond_both (b == 47) (Some 0) (option_map suc (body_length (b == 92) bs)) (IsEnd false (b ∷ bs))
+    (λ is. (omega arith, ap (λ y. y ∷ []) (eqb-true b 47 is), empty))
+    (λ other. end-more (b == 92) false b bs (λ ys w. rest-more b ys (b == 92) refl other w) (body_length (b == 92) bs) (body-is (b == 92) bs))
+
+pub body-length-at : (body rest : List ℕ) → IsBody body → body_length false (body ++ 47 ∷ rest) ≡ Some (length body)
+body-length-at _ rest empty = refl
+body-length-at _ rest (plain b bs slash back h) =
+    cond-false (b == 47) (Some 0) (option_map suc (body_length (escapes false b) (bs ++ 47 ∷ rest))) slash
+    ∙ ap (λ (t : Bool). option_map suc (body_length t (bs ++ 47 ∷ rest))) back
+    ∙ ap (option_map suc) (body-length-at bs rest h)
+body-length-at _ rest (pair b bs h) = ap (λ o. option_map suc (option_map suc o)) (body-length-at bs rest h)
 
 pub within : (bs : List ℕ) (n b : ℕ) → get_or bs n 0 ≡ b → 0 < b → n < length bs
 within [] zero b e lt = absurd (omega (arith, e, lt))
@@ -124,99 +109,71 @@ within [] (suc n) b e lt = absurd (omega (arith, e, lt))
 within (c ∷ bs) zero b e lt = omega arith
 within (c ∷ bs) (suc n) b e lt = omega (arith, within bs n b e lt)
 
-flag-none : (bs : List ℕ) (n : ℕ) → (get_or bs n 0 == 105) ≡ false → IsFlag [] (drop n bs)
-flag-none [] zero e = tt
-flag-none [] (suc n) e = tt
-flag-none (b ∷ bs) zero e = e
-flag-none (b ∷ bs) (suc n) e = flag-none bs n e
+-- what a test of the byte at a place says of the bytes from there on
+from-place : (P : List ℕ → Type 0) (test : ℕ → Bool) → P [] → ((b : ℕ) (bs : List ℕ) → test b ≡ false → P (b ∷ bs)) → (bs : List ℕ) (n : ℕ) → test (get_or bs n 0) ≡ false → P (drop n bs)
+from-place P test none some [] zero e = none
+from-place P test none some [] (suc n) e = none
+from-place P test none some (b ∷ bs) zero e = some b bs e
+from-place P test none some (b ∷ bs) (suc n) e = from-place P test none some bs n e
 
 ends-none : (bs : List ℕ) (n : ℕ) → is_word (get_or bs n 0) ≡ false → EndsWord (drop n bs)
-ends-none [] zero e = tt
-ends-none [] (suc n) e = tt
-ends-none (b ∷ bs) zero e = e
-ends-none (b ∷ bs) (suc n) e = ends-none bs n e
+ends-none = from-place EndsWord is_word tt (λ b bs e. e)
 
-pattern-is : (b : ℕ) (bs : List ℕ) (x : Kind × ℕ) → b ≡ 47 → (o : Option ℕ) → body_length false bs ≡ o → SameOk (pattern_by bs o) x → IsFront (b ∷ bs) x
-pattern-is b bs x is None e h = absurd cc
-pattern-is b bs x is (Some n) e h =
-    let w = body-is false bs n e in
-    let one : n + 1 ≡ suc n = omega arith in
-    let two : n + 2 ≡ suc (suc n) = omega arith in
-    let start : b ∷ take (suc n) bs ≡ 47 ∷ (take n bs ++ 47 ∷ []) = ap (λ y. y ∷ take (suc n) bs) is ∙ ap (λ ys. 47 ∷ ys) w.cut in
-    split (get_or bs (n + 1) 0 == 105) _ _ _ _ h
-    (λ flag g. split (is_word (get_or bs (n + 2) 0)) _ _ _ _ g
-    (λ t k. absurd cc)
-    (λ t k. let f : get_or bs (suc n) 0 ≡ 105 = rw one at (eqb-true _ 105 flag) in
-    let lt : suc n < length bs = within bs (suc n) 105 f (omega arith) in
-    subst (IsFront (b ∷ bs)) (ok-same _ _ k) (
-      omega (arith, lt),
-      (
-        take n bs,
-        105 ∷ [],
-        ap (λ ys. b ∷ ys) (take-suc bs (suc n) 0 lt ∙ ap (λ y. take (suc n) bs ++ y ∷ []) f) ∙ ap (λ ys. ys ++ 105 ∷ []) start ∙ ap (λ ys. 47 ∷ ys) (append_assoc (take n bs) (47 ∷ []) (105 ∷ [])),
-        w.body,
-        (refl, ends-none bs (suc (suc n)) (rw two at t)),
-      ),
-    )))
-    (λ flag g. subst (IsFront (b ∷ bs)) (ok-same _ _ g)
-    (omega (arith, w.lt), (take n bs, [], start, w.body, flag-none bs (suc n) (rw one at flag))))
+pattern-fits : (bs : List ℕ) → Fits (47 ∷ bs) (pattern_by bs (body_length false bs))
+pattern-fits bs = by-end (body_length false bs) refl (body-is false bs)
+  where
+    by-end : (o : Option ℕ) → body_length false bs ≡ o → IsEnd false bs o → Fits (47 ∷ bs) (pattern_by bs o)
+    by-end None e w = pattern bs (λ body rest is h. let k = body-length-at body rest h in let f = ap (body_length false) is in cc)
+    by-end (Some n) e (lt, cut, body) =
+        let start : 47 ∷ take (suc n) bs ≡ 47 ∷ (take n bs ++ 47 ∷ []) = ap (λ ys. 47 ∷ ys) cut in
+        cond_both (get_or bs (n + 1) 0 == 105) (cond (is_word (get_or bs (n + 2) 0)) (Err X2) (Ok (Pattern, suc (suc (suc n))))) (Ok (Pattern, suc (suc n))) (Fits (47 ∷ bs))
+        (λ flag. cond_both (is_word (get_or bs (n + 2) 0)) (Err X2) (Ok (Pattern, suc (suc (suc n)))) (Fits (47 ∷ bs)) (λ _. tt)
+        (λ ends. let one : n + 1 ≡ suc n = omega arith in
+        let two : n + 2 ≡ suc (suc n) = omega arith in
+        let f : get_or bs (suc n) 0 ≡ 105 = rw one at (eqb-true _ 105 flag) in
+        let past : suc n < length bs = within bs (suc n) 105 f (omega arith) in
+        let whole : take (suc (suc n)) bs ≡ take n bs ++ 47 ∷ 105 ∷ [] = rw (take-suc bs (suc n) 0 past, cut, f, append_assoc) refl in
+        (omega (arith, past), (take n bs, 105 ∷ [], ap (λ ys. 47 ∷ ys) whole, body, (refl, ends-none bs (suc (suc n)) (rw two at ends))))))
+        (λ other. let one : n + 1 ≡ suc n = omega arith in
+        (omega (arith, lt), (take n bs, [], start, body, from-place (IsFlag []) (λ b. b == 105) tt (λ b bs e. e) bs (suc n) (rw one at other))))
 
 -- ---- the others
-null-is : (b : ℕ) (bs : List ℕ) (x : Kind × ℕ) → b ≡ 110 → SameOk (null_front (b ∷ bs)) x → IsFront (b ∷ bs) x
-null-is b [] x is h = absurd cc
-null-is b (c ∷ []) x is h = split (c == 117) _ _ _ _ h (λ e g. absurd cc) (λ e g. absurd cc)
-null-is b (c ∷ d ∷ []) x is h = split (c == 117) _ _ _ _ h (λ e g. split (d == 108) _ _ _ _ g (λ e g. absurd cc) (λ e g. absurd cc)) (λ e g. absurd cc)
-null-is b (c ∷ d ∷ f ∷ rest) x is h =
-    split (c == 117) _ _ _ _ h
-    (λ c-is g. split (d == 108) _ _ _ _ g
-    (λ d-is g. split (f == 108) _ _ _ _ g
-    (λ f-is g. split (is_word (get_or rest 0 0)) _ _ _ _ g
-    (λ t g. absurd cc)
-    (λ t g. subst (IsFront (b ∷ c ∷ d ∷ f ∷ rest)) (ok-same _ _ g)
-    (omega arith, (spelled b c d f is (eqb-true c 117 c-is) (eqb-true d 108 d-is) (eqb-true f 108 f-is), ends-none rest 0 t))))
-    (λ t g. absurd cc))
-    (λ t g. absurd cc))
-    (λ t g. absurd cc)
+null-fits : (bs : List ℕ) → Fits (110 ∷ bs) (null_front (110 ∷ bs))
+null-fits bs =
+    where-true (110 ∷ bs) (get_or bs 0 0 == 117) _ (λ u. where-true (110 ∷ bs) (get_or bs 1 0 == 108) _ (λ l. where-true (110 ∷ bs) (get_or bs 2 0 == 108) _ (λ m.
+    cond_both (is_word (get_or bs 3 0)) (Err X2) (Ok (Null, 4)) (Fits (110 ∷ bs)) (λ _. tt) (λ ends. spelled bs (eqb-true _ 117 u) (eqb-true _ 108 l) (eqb-true _ 108 m) ends))))
   where
-    spelled : (b c d f : ℕ) → b ≡ 110 → c ≡ 117 → d ≡ 108 → f ≡ 108 → b ∷ c ∷ d ∷ f ∷ [] ≡ codes "null"
-    spelled b c d f p q r s = rw (p, q, r, s) refl
+    spelled : (cs : List ℕ) → get_or cs 0 0 ≡ 117 → get_or cs 1 0 ≡ 108 → get_or cs 2 0 ≡ 108 → is_word (get_or cs 3 0) ≡ false → IsFront (110 ∷ cs) (Null, 4)
+    spelled (c ∷ d ∷ f ∷ rest) p q r ends = (omega arith, (rw (p, q, r) refl, ends-none rest 0 ends))
+    spelled _ p q r ends = absurd (omega (arith, p, q, r))
 
-two-is : (k : Kind) (f g b : ℕ) (bs : List ℕ) → b ≡ f → get_or bs 0 0 ≡ g → 0 < g
-    → ((s rest : List ℕ) → s ≡ f ∷ g ∷ [] → Spells k s rest) → IsFront (b ∷ bs) (k, 2)
-two-is k f g b [] is e lt spell = absurd (omega (arith, e, lt))
-two-is k f g b (c ∷ bs) is e lt spell = (omega arith, spell (b ∷ c ∷ []) bs (rw (is, e) refl))
+two-fits : (k : Kind) (f g : ℕ) (bs : List ℕ) (s : Front) → 0 < g → ((rest : List ℕ) → Spells k (f ∷ g ∷ []) rest) → Fits (f ∷ bs) s → Fits (f ∷ bs) (cond (get_or bs 0 0 == g) (Ok (k, 2)) s)
+two-fits k f g bs s some spell h = cond_both (get_or bs 0 0 == g) (Ok (k, 2)) s (Fits (f ∷ bs)) (λ e. by-next bs (eqb-true _ g e)) (λ _. h)
+  where
+    by-next : (cs : List ℕ) → get_or cs 0 0 ≡ g → IsFront (f ∷ cs) (k, 2)
+    by-next [] e = absurd (omega (arith, e, some))
+    by-next (c ∷ cs) e = (omega arith, subst (λ x. Spells k (f ∷ x ∷ []) cs) (sym e) (spell cs))
 
-one-is : (k : Kind) (f b : ℕ) (bs : List ℕ) → b ≡ f → ((s rest : List ℕ) → s ≡ f ∷ [] → Spells k s rest) → IsFront (b ∷ bs) (k, 1)
-one-is k f b bs is spell = (omega arith, spell (b ∷ []) bs (rw is refl))
-
-pub lexeme-is : (b : ℕ) (bs : List ℕ) (x : Kind × ℕ) → SameOk (lexeme (b ∷ bs)) x → IsFront (b ∷ bs) x
-lexeme-is b bs x h =
-    let c : ℕ = get_or bs 0 0 in
-    split (b == 36) _ _ _ _ h (λ e g. name-is b bs x (eqb-true b 36 e) g)
-    (λ e h. split (b == 34) _ _ _ _ h (λ e g. text-is b 34 bs x (eqb-true b 34 e) refl (until 34 bs) refl g)
-    (λ e h. split (b == 39) _ _ _ _ h (λ e g. text-is b 39 bs x (eqb-true b 39 e) refl (until 39 bs) refl g)
-    (λ e h. split (b == 47) _ _ _ _ h (λ e g. pattern-is b bs x (eqb-true b 47 e) (body_length false bs) refl g)
-    (λ e h. split (b == 110) _ _ _ _ h (λ e g. null-is b bs x (eqb-true b 110 e) g)
-    (λ e h. split (b == 40) _ _ _ _ h (λ e g. subst (IsFront (b ∷ bs)) (ok-same _ _ g) (one-is Left 40 b bs (eqb-true b 40 e) (λ s rest e. e)))
-    (λ e h. split (b == 41) _ _ _ _ h (λ e g. subst (IsFront (b ∷ bs)) (ok-same _ _ g) (one-is Right 41 b bs (eqb-true b 41 e) (λ s rest e. e)))
-    (λ e h. split (b == 61) _ _ _ _ h
-    (λ e g. split (c == 61) _ _ _ _ g (λ d g. subst (IsFront (b ∷ bs)) (ok-same _ _ g) (two-is Equal 61 61 b bs (eqb-true b 61 e) (eqb-true c 61 d) (omega arith) (λ s rest e. e)))
-    (λ d g. split (c == 126) _ _ _ _ g (λ d g. subst (IsFront (b ∷ bs)) (ok-same _ _ g) (two-is Match 61 126 b bs (eqb-true b 61 e) (eqb-true c 126 d) (omega arith) (λ s rest e. e))) (λ d g. absurd cc)))
-    (λ e h. split (b == 33) _ _ _ _ h
-    (λ e g. split (c == 61) _ _ _ _ g (λ d g. subst (IsFront (b ∷ bs)) (ok-same _ _ g) (two-is Unequal 33 61 b bs (eqb-true b 33 e) (eqb-true c 61 d) (omega arith) (λ s rest e. e)))
-    (λ d g. split (c == 126) _ _ _ _ g (λ d g. subst (IsFront (b ∷ bs)) (ok-same _ _ g) (two-is Mismatch 33 126 b bs (eqb-true b 33 e) (eqb-true c 126 d) (omega arith) (λ s rest e. e))) (λ d g. absurd cc)))
-    (λ e h. split (b == 38) _ _ _ _ h
-    (λ e g. split (c == 38) _ _ _ _ g (λ d g. subst (IsFront (b ∷ bs)) (ok-same _ _ g) (two-is And 38 38 b bs (eqb-true b 38 e) (eqb-true c 38 d) (omega arith) (λ s rest e. e))) (λ d g. absurd cc))
-    (λ e h. split (b == 124) _ _ _ _ h
-    (λ e g. split (c == 124) _ _ _ _ g (λ d g. subst (IsFront (b ∷ bs)) (ok-same _ _ g) (two-is Or 124 124 b bs (eqb-true b 124 e) (eqb-true c 124 d) (omega arith) (λ s rest e. e))) (λ d g. absurd cc))
-    (λ e h. absurd cc)))))))))))
-
-pub front-is : (bs : List ℕ) (x : Kind × ℕ) → SameOk (lexeme bs) x → IsFront bs x
-front-is [] x h = absurd cc
-front-is (b ∷ bs) x h = lexeme-is b bs x h
+pub front-fits : (bs : List ℕ) → Fits bs (lexeme bs)
+front-fits [] = tt
+front-fits (b ∷ bs) =
+    at 36 _ _ (name-fits bs)
+    (at 34 _ _ (text-fits 34 bs refl)
+    (at 39 _ _ (text-fits 39 bs refl)
+    (at 47 _ _ (pattern-fits bs)
+    (at 110 _ _ (null-fits bs)
+    (at 40 _ _ (omega arith, refl)
+    (at 41 _ _ (omega arith, refl)
+    (at 61 _ _ (two-fits Equal 61 61 bs _ (omega arith) (λ _. refl) (two-fits Match 61 126 bs _ (omega arith) (λ _. refl) tt))
+    (at 33 _ _ (two-fits Unequal 33 61 bs _ (omega arith) (λ _. refl) (two-fits Mismatch 33 126 bs _ (omega arith) (λ _. refl) tt))
+    (at 38 _ _ (two-fits And 38 38 bs _ (omega arith) (λ _. refl) tt)
+    (at 124 _ _ (two-fits Or 124 124 bs _ (omega arith) (λ _. refl) tt) tt))))))))))
+  where
+    at : (m : ℕ) (r s : Front) → Fits (m ∷ bs) r → Fits (b ∷ bs) s → Fits (b ∷ bs) (cond (b == m) r s)
+    at m r s here other = cond_both (b == m) r s (Fits (b ∷ bs)) (λ e. subst (λ x. Fits (x ∷ bs) r) (sym (eqb-true b m e)) here) (λ _. other)
 
 pub front-of : (bs : List ℕ) (r : Result (Kind × ℕ) ExprFault) → Gives (λ x. x) r (lexeme bs) → IfOk r (IsFront bs)
-front-of bs (Ok x) h = front-is bs x h
+front-of bs (Ok x) h = subst (Fits bs) h (front-fits bs)
 front-of bs (Err e) h = tt
 
 -- ---- tokens begin and end with ASCII
@@ -255,16 +212,9 @@ flag-low body (f ∷ g ∷ fs) rest h = absurd h
 pub slice-low : (k : Kind) (s rest : List ℕ) → Spells k s rest → IsLow s
 slice-low Name s rest (b, bs, e, start, all, ends) = subst IsLow (sym e) (omega arith, words-low b bs (word-low b (start-word b start)) all)
 slice-low Text s rest (q, body, e, mark, lacks) = subst IsLow (sym e) (mark-low q mark, ends-snoc (q ∷ body) q (mark-low q mark))
-slice-low Null s rest h = subst IsLow (sym h.0) (omega arith, omega arith)
-slice-low Equal s rest h = subst IsLow (sym h) (omega arith, omega arith)
-slice-low Unequal s rest h = subst IsLow (sym h) (omega arith, omega arith)
-slice-low Match s rest h = subst IsLow (sym h) (omega arith, omega arith)
-slice-low Mismatch s rest h = subst IsLow (sym h) (omega arith, omega arith)
-slice-low And s rest h = subst IsLow (sym h) (omega arith, omega arith)
-slice-low Or s rest h = subst IsLow (sym h) (omega arith, omega arith)
-slice-low Left s rest h = subst IsLow (sym h) (omega arith, omega arith)
-slice-low Right s rest h = subst IsLow (sym h) (omega arith, omega arith)
 slice-low Pattern s rest (body, flag, e, is, fits) = subst IsLow (sym e) (omega arith, flag-low body flag rest fits)
+slice-low Null s rest h = subst IsLow (sym h.0) (omega arith, omega arith)
+slice-low _ s rest h = subst IsLow (sym h) (omega arith, omega arith)
 
 low-at : (bs : List ℕ) (n : ℕ) → EndsLow (take (suc n) bs) → get_or bs n 0 < 128
 low-at [] n h = absurd h
@@ -309,6 +259,4 @@ ends-cut text at (suc m) utf8 lt b =
 
 -- what is left of a slice from a place on
 pub rest-bounds : (bs text : List ℕ) (at : ℕ) (x : Kind × ℕ) → bs ≡ text → IsFront (take (length bs - at) (drop at bs)) x → Bounds (drop at text) x.1
-rest-bounds bs text at x same h =
-    let whole : take (length bs - at) (drop at bs) ≡ drop at bs = ap (λ k. take k (drop at bs)) (sym (length-drop at bs)) ∙ take_all (length (drop at bs)) (drop at bs) (omega arith) in
-    bounds (drop at text) x (subst (λ ys. IsFront ys x) (whole ∙ ap (drop at) same) h)
+rest-bounds bs text at x same h = bounds (drop at text) x (subst (λ ys. IsFront ys x) (take_rest bs at ∙ ap (drop at) same) h)

@@ -1,6 +1,5 @@
 pub mod Lexing
 pub mod Fronts
-pub mod Sound
 pub mod FoundLemmas
 pub mod Descending
 pub mod KindLemmas
@@ -13,7 +12,6 @@ pub mod FrontLemmas
 pub mod TokenLemmas
 pub mod OrderLemmas
 pub mod OneMeaning
-pub mod Computing
 pub mod Budgets
 pub mod Writing
 pub mod Gathering

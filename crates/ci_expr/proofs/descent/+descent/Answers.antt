@@ -1,4 +1,4 @@
-use Rattle.std.proofs.Common.{None, map, arith, ap}
+use Rattle.std.proofs.Common.{None, Ok, map, arith, ap}
 use Rattle.std.proofs.lemmas.Result.{err_from_is_err_and}
 use Rattle.ci_expr.specs.Prelude.{token_view, tree_view}
 use Rattle.ci_expr.proofs.Descending.{shorter, part-fails, part-alone, joined-reads, joined-fails, group-fails, group-by, in-joined}
@@ -25,8 +25,9 @@ pub chain_from-returns-in_ok-others-in-Some-2-clause-exact : goal.chain_from-ret
 chain_from-returns-in_ok-others-in-Some-2-clause-exact t c = λ n le.
     in-joined c.args.join _ (map token_view c.in_ok-others-in-Some.rest.now) (tree_view c.in_ok-first.first) (tree_view c.in_ok-others-in-Some.others) _ _
     (ap tree_view c.in_ok-first-in-Some.ensures.ok) (ap tree_view c.in_ok-others-in-Some-2.ensures.ok)
-    (joined-reads c.args.join (map token_view c.args.tokens.now) (map token_view c.in_ok-first.rest.now) (map token_view c.in-Some.more.now) (map token_view c.in_ok-others-in-Some.rest.now)
-    (tree_view c.in_ok-first.first) (tree_view c.in_ok-others-in-Some.others) c.in_ok-first.ensures.exact (rw c.sign_of.ensures at c.in-Some.ensures.value)
+    (joined-reads c.args.join (map token_view c.args.tokens.now) (map token_view c.in_ok-first.rest.now) (map token_view c.in-Some.more.now)
+    (tree_view c.in_ok-first.first) (Ok (tree_view c.in_ok-others-in-Some.others, map token_view c.in_ok-others-in-Some.rest.now)) c.in_ok-first.ensures.exact
+    (rw c.sign_of.ensures at c.in-Some.ensures.value)
     (shorter c.in-Some.more.now c.args.tokens.now (omega (arith, c.in-Some.ensures.size, c.in_ok-first.ensures.size))) c.in_ok-others-in-Some.ensures.exact n le)
 
 pub test_from-returns-in_err-inner-in-Left-clause-exact : goal.test_from-returns-in_err-inner-in-Left-clause-exact
