@@ -1,19 +1,34 @@
--- Lists of which each is among others.
-use Rattle.std.proofs.Common.{◌≡◌, ◌≢◌, ℕ, zero, suc, ◌+◌, ◌<◌, Bool, true, false, List, [], ◌∷◌, ◌++◌, length, get_or, take, drop, filter, map, refl, ap, sym, subst, ◌∙◌, ⊎_elim}
-use Rattle.std.proofs.Common.{arith, if◌then◌else◌, ◌||◌, ◌&&◌, flat_map}
+-- What an expression looks for, and lists of which each is among others.
+use Rattle.std.proofs.Common.{◌≡◌, ◌++◌, false, [], refl, ap₂, ◌≢◌, ℕ, zero, suc, ◌+◌, ◌<◌, Bool, true, List, ◌∷◌, length, get_or, take, drop, filter, map, ap, sym, subst, ◌∙◌}
+use Rattle.std.proofs.Common.{⊎_elim, arith, if◌then◌else◌, ◌||◌, ◌&&◌, flat_map}
+use Rattle.std.proofs.lemmas.Bool.{or_parts, or_cases, or_left, or_right, and_parts}
 use Rattle.std.specs.Str.{bytes_eq}
-use Rattle.std.proofs.lemmas.Bool.{or_cases, and_parts}
 use Rattle.std.proofs.lemmas.Slice.Eq.{bytes_eq-Decides}
-use Rattle.std.proofs.Math.Bool.{or-true}
 use Rattle.std.proofs.lemmas.List.{at_drop_more, take_more, map-append}
-use Rattle.ci_expr.specs.Prelude.{answered, AreAnswered, RefusesLooks, Look, same_flag, same_pattern, same_look, look_view, looks_view, looks_in, formula_view, is_among, AreAmong}
-use Rattle.ci_expr.specs.Prelude.{with_one, with_each, distinct, Answer, has_pattern, Values, RefusesPattern, ExprFault}
+use Rattle.ci_expr.specs.declared.formula.Formula as formulas
+use Rattle.ci_expr.specs.Prelude.{Joined', Group', Found, formula_view, patterns_in, looks_in, AreMeasured, Values, has_pattern, answered, AreAnswered, RefusesLooks, Look}
+use Rattle.ci_expr.specs.Prelude.{same_flag, same_pattern, same_look, look_view, looks_view, is_among, AreAmong, with_one, with_each, distinct, RefusesPattern, ExprFault}
 use Rattle.ci_expr.specs.Built.{Pattern}
 use Rattle.ci_expr.specs.declared.answers.Answers.{Answers}
-use Rattle.ci_expr.specs.declared.formula.Formula as formulas
 use Rattle.ci_expr.specs.declared.looks.Look as looks
-use Rattle.ci_expr.proofs.Costs.{no-looks}
-use Rattle.ci_expr.proofs.Writing.{same-written}
+
+-- ---- what it builds and looks for
+-- without a pattern there is none to build or to look for
+pub no-patterns : (f : formulas.Formula) → has_pattern (formula_view f) ≡ false → (patterns_in f ≡ []) × ((vs : Values) → looks_in vs f ≡ [])
+no-patterns (Joined' j p a q b) h =
+    let both = or_parts (has_pattern (formula_view a)) (has_pattern (formula_view b)) h in
+    let first = no-patterns a both.0 in
+    let second = no-patterns b both.1 in
+    (ap₂ (λ xs ys. xs ++ ys) first.0 second.0, λ vs. ap₂ (λ xs ys. xs ++ ys) (first.1 vs) (second.1 vs))
+no-patterns (Group' p a) h = no-patterns a h
+no-patterns (Found negated name pattern) h = absurd cc
+no-patterns _ h = (refl, λ vs. refl)
+
+pub measured : (f : formulas.Formula) → AreMeasured f
+measured (Joined' j p a q b) = (measured a, measured b)
+measured (Group' p a) = measured a
+measured (Found negated name pattern) = pattern.value.measured
+measured _ = tt
 
 -- ---- looks that are the same
 
@@ -27,14 +42,18 @@ pattern-itself p = ap (λ b. b && bytes_eq p.source p.source) (flag-itself p.ins
 pub look-itself : (l : Look) → same_look l l ≡ true
 look-itself l = ap (λ b. b && bytes_eq l.text l.text) (pattern-itself l.pattern) ∙ (bytes_eq-Decides l.text l.text).1 refl
 
-pub look-alike : (a b y : Look) → same_look a b ≡ true → same_look a y ≡ same_look b y
+-- what two patterns that are the same have in common
+pub same-written : (a b : Bool) (s t : List ℕ) → same_flag a b && bytes_eq s t ≡ true → (b ≡ a) × (t ≡ s)
+same-written true true s t e = (refl, sym ((bytes_eq-Decides s t).0 e))
+same-written false false s t e = (refl, sym ((bytes_eq-Decides s t).0 e))
+same-written _ _ s t e = absurd cc
+
+look-alike : (a b y : Look) → same_look a b ≡ true → same_look a y ≡ same_look b y
 look-alike a b y h =
     let w = and_parts (same_pattern a.pattern b.pattern) (bytes_eq a.text b.text) h in
     let p = same-written a.pattern.insensitive b.pattern.insensitive a.pattern.source b.pattern.source w.0 in
     let t : a.text ≡ b.text = (bytes_eq-Decides a.text b.text).0 w.1 in
-    ap (λ f. (same_flag f y.pattern.insensitive && bytes_eq a.pattern.source y.pattern.source) && bytes_eq a.text y.text) (sym p.0)
-    ∙ ap (λ s. (same_flag b.pattern.insensitive y.pattern.insensitive && bytes_eq s y.pattern.source) && bytes_eq a.text y.text) (sym p.1)
-    ∙ ap (λ u. same_pattern b.pattern y.pattern && bytes_eq u y.text) t
+    rw (sym p.0, sym p.1, t) refl
 
 module _ {A : Type 0} (same : A → A → Bool) where
   -- ---- parts of a list
@@ -59,26 +78,23 @@ module _ {A : Type 0} (same : A → A → Bool) where
 
   -- ---- longer lists
 
-  or-later : (b c : Bool) → c ≡ true → b || c ≡ true
-  or-later b c h = ap (λ d. b || d) h ∙ or-true b
-
   pub one-of-more : (x : A) (ys more : List A) → is_among same x ys ≡ true → is_among same x (ys ++ more) ≡ true
   one-of-more x [] more h = absurd cc
   one-of-more x (y ∷ ys) more h = ⊎_elim
-      (λ (e : same x y ≡ true). ap (λ b. b || is_among same x (ys ++ more)) e)
-      (λ (e : is_among same x ys ≡ true). or-later (same x y) (is_among same x (ys ++ more)) (one-of-more x ys more e))
+      (or_left (same x y) (is_among same x (ys ++ more)))
+      (λ (e : is_among same x ys ≡ true). or_right (same x y) (is_among same x (ys ++ more)) (one-of-more x ys more e))
       (or_cases (same x y) (is_among same x ys) h)
 
   pub one-of-rest : (x : A) (ys more : List A) → is_among same x more ≡ true → is_among same x (ys ++ more) ≡ true
   one-of-rest x [] more h = h
-  one-of-rest x (y ∷ ys) more h = or-later (same x y) (is_among same x (ys ++ more)) (one-of-rest x ys more h)
+  one-of-rest x (y ∷ ys) more h = or_right (same x y) (is_among same x (ys ++ more)) (one-of-rest x ys more h)
 
   pub among-more : (xs ys more : List A) → AreAmong same xs ys → AreAmong same xs (ys ++ more)
   among-more [] ys more h = tt
   among-more (x ∷ xs) ys more h = (one-of-more x ys more h.0, among-more xs ys more h.1)
 
   kept-or-not : (x y : A) (ys : List A) (kept : Bool) → is_among same x ys ≡ true → is_among same x (if kept then y ∷ ys else ys) ≡ true
-  kept-or-not x y ys true h = or-later (same x y) (is_among same x ys) h
+  kept-or-not x y ys true h = or_right (same x y) (is_among same x ys) h
   kept-or-not x y ys false h = h
 
   -- an element for which the test holds is among those for which it does
@@ -106,8 +122,8 @@ module _ {A : Type 0} (same : A → A → Bool) (alike : (a b y : A) → same a 
   among-alike : (a b : A) (ys : List A) → same a b ≡ true → is_among same b ys ≡ true → is_among same a ys ≡ true
   among-alike a b [] s h = absurd cc
   among-alike a b (y ∷ ys) s h = ⊎_elim
-      (λ (e : same b y ≡ true). ap (λ t. t || is_among same a ys) (alike a b y s ∙ e))
-      (λ (e : is_among same b ys ≡ true). ap (λ t. same a y || t) (among-alike a b ys s e) ∙ or-true (same a y))
+      (λ (e : same b y ≡ true). or_left (same a y) (is_among same a ys) (alike a b y s ∙ e))
+      (λ (e : is_among same b ys ≡ true). or_right (same a y) (is_among same a ys) (among-alike a b ys s e))
       (or_cases (same b y) (is_among same b ys) h)
 
   among-among : (x : A) (ys zs : List A) → AreAmong same ys zs → is_among same x ys ≡ true → is_among same x zs ≡ true
@@ -134,18 +150,9 @@ module _ {A : Type 0} (same : A → A → Bool) (alike : (a b y : A) → same a 
 
 -- ---- looks that were made
 
-pub answered_first : (a : Answers) (ls ms : List Look) → AreAnswered a (ls ++ ms) → AreAnswered a ls
-answered_first a ls ms h = among-left same_look ls ms (answered a) h
-
-pub answered_second : (a : Answers) (ls ms : List Look) → AreAnswered a (ls ++ ms) → AreAnswered a ms
-answered_second a ls ms h = among-right same_look ls ms (answered a) h
-
 -- each of a list is, where each that is kept once is
 pub answered_each : (a : Answers) (ls : List Look) → AreAnswered a (distinct same_look ls) → AreAnswered a ls
 answered_each a ls h = among-distinct same_look look-alike ls (answered a) h
-
-pub answered_pushed : (xs ys : List Answer) (x : Answer) → ys ≡ xs ++ x ∷ [] → map (λ y. look_view y.look) ys ≡ map (λ y. look_view y.look) xs ++ look_view x.look ∷ []
-answered_pushed xs ys x e = ap (λ zs. map (λ y. look_view y.look) zs) e ∙ map-append (λ y. look_view y.look) xs (x ∷ [])
 
 -- those that are to be made, one further
 pub made_next : (is_made : Look → Bool) (ls : List looks.Look) (i : ℕ) (l : looks.Look) → i < length ls → l ≡ get_or ls i l
@@ -157,7 +164,7 @@ made_next is_made ls i l lt is =
 -- where there is something to look for, there is a pattern
 refused_by : (vs : Values) (f : formulas.Formula) (ls : List Look) (b : Bool) → has_pattern (formula_view f) ≡ b → ls ≡ distinct same_look (looks_in vs f) → ls ≢ [] → b ≡ true
 refused_by vs f ls true h gathered some = refl
-refused_by vs f ls false h gathered some = absurd (some (gathered ∙ ap (λ ms. distinct same_look ms) (no-looks vs f h)))
+refused_by vs f ls false h gathered some = absurd (some (gathered ∙ ap (λ ms. distinct same_look ms) ((no-patterns f h).1 vs)))
 
 pub refused_looks : (vs : Values) (f : formulas.Formula) (e : ExprFault) (ls : List Look) → ls ≡ distinct same_look (looks_in vs f) → RefusesLooks e ls → RefusesPattern e (formula_view f)
 refused_looks vs f ExprFault.Memory ls gathered h = tt

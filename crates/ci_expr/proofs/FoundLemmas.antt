@@ -23,6 +23,7 @@ use Rattle.regex_vm.specs.Found.{first_match, span}
 use Rattle.regex_hir.specs.Text.{is_boundary}
 use Rattle.regex.proofs.SearchLemmas.{leftmost_none, leftmost_here, leftmost_retry}
 use Rattle.ci_expr.specs.Prelude.{Refusal, config_of, found_by, is_found_in, IsAutomatonOf, HasTables, IsPattern, IsNoPattern, IsRefused}
+use Rattle.ci_expr.proofs.Parts.{mapped}
 
 abbrev Grammar : Type 0
 Grammar = Option (Nested Re × Names)
@@ -102,17 +103,9 @@ pub no-pattern : (config : Config) (insensitive : Bool) (text : List ℕ) (kind 
 no-pattern config insensitive text kind e refused other = refused-by insensitive text kind (subst (λ c. Refuses c text kind) e refused) other
 
 -- ---- a search by the automaton, place by place
-abbrev or_else : {A : Type 0} → A → Option A → A
-or_else d None = d
-or_else d (Some x) = x
-
 none-of : {A B : Type 0} (f : A → B) (o : Option A) → option_map f o ≡ None → o ≡ None
 none-of f None e = refl
 none-of f (Some x) e = absurd cc
-
-value-of : {A B : Type 0} (f : A → B) (o : Option A) (y : B) → option_map f o ≡ Some y → (x : A) × (o ≡ Some x) × (f x ≡ y)
-value-of f None y e = absurd cc
-value-of f (Some x) y e = (x, refl, ap (or_else (f x)) e)
 
 module _ (nfa : Nfa) (re : Re) (h : Implements nfa re) (text : List ℕ) (at : ℕ) where
   as-find : (r : Option (ℕ × ℕ)) → r ≡ option_map span (first_match nfa text (length text) at (length text)) → option_map span (find re text at) ≡ r
@@ -124,11 +117,11 @@ module _ (nfa : Nfa) (re : Re) (h : Implements nfa re) (text : List ℕ) (at : �
   module _ (from to : ℕ) (e : Some (from, to) ≡ option_map span (first_match nfa text (length text) at (length text))) where
     pub found-here : is_boundary text from ≡ true → is_some (find_str re text at) ≡ true
     found-here cut =
-        let m = value-of span (find re text at) (from, to) (as-find (Some (from, to)) e) in
+        let m = mapped span (find re text at) (from, to) (as-find (Some (from, to)) e) in
         ap is_some (leftmost_here re text true at m.0 m.1 (λ _. ap (is_boundary text) (ap (λ s. s.0) m.2) ∙ cut))
 
     pub found-inside : is_boundary text from ≡ false → find_str re text at ≡ find_str re text (from + 1)
     found-inside cut =
-        let m = value-of span (find re text at) (from, to) (as-find (Some (from, to)) e) in
+        let m = mapped span (find re text at) (from, to) (as-find (Some (from, to)) e) in
         let starts : m.0.start ≡ from = ap (λ s. s.0) m.2 in
         leftmost_retry re text true at m.0 refl m.1 (ap (is_boundary text) starts ∙ cut) ∙ ap (λ n. find_str re text (n + 1)) starts

@@ -1,9 +1,9 @@
 -- What is read at the front is a token, or what stops there.
 use Rattle.std.proofs.Common.{◌≡◌, ℕ, zero, suc, ◌+◌, ◌-◌, ◌<◌, ◌≤◌, Bool, true, false, cond, List, [], ◌∷◌, ◌++◌, length, take, drop, get_or, Option, Some, None, option_map}
-use Rattle.std.proofs.Common.{Result, Ok, Err, IfOk, refl, sym, ◌∙◌, ap, subst, arith, append_assoc, take-suc, IsCharBoundary, IsUtf8, ◌==◌, ◌||◌, ◌&&◌, nat_le}
-use Rattle.std.proofs.lemmas.Bool.{eqb-true, cond_both, cond-false}
+use Rattle.std.proofs.Common.{Result, Ok, Err, IfOk, refl, sym, ◌∙◌, ap, subst, arith, ⊎_elim, append_assoc, take-suc, IsCharBoundary, IsUtf8, ◌==◌, ◌||◌, ◌&&◌, nat_le}
+use Rattle.std.proofs.lemmas.Bool.{cases_lt, eqb-true, cond_both, cond-false}
 use Rattle.std.proofs.lemmas.Bool.Decides.{nat_tests}
-use Rattle.std.proofs.lemmas.List.{length-drop, get_or-drop, take_rest}
+use Rattle.std.proofs.lemmas.List.{length-drop, get_or-drop, get_or_past, take_rest}
 use Rattle.std.proofs.lemmas.Str.{IsCharBoundary-after_ascii}
 use Rattle.ci_expr.specs.Prelude.{ExprCode, X2, X3, ExprFault, Gives, Kind, Name, Text, Null, Unequal, Match, Mismatch, And, Or, word_length, until, escapes, body_length}
 use Rattle.ci_expr.specs.Prelude.{name_front, text_by, pattern_by, null_front, lexeme, starts_word, is_word, AreWord, EndsWord, Lacks, IsMark, IsBody, empty, plain, pair, IsFlag}
@@ -104,10 +104,7 @@ body-length-at _ rest (plain b bs slash back h) =
 body-length-at _ rest (pair b bs h) = ap (λ o. option_map suc (option_map suc o)) (body-length-at bs rest h)
 
 pub within : (bs : List ℕ) (n b : ℕ) → get_or bs n 0 ≡ b → 0 < b → n < length bs
-within [] zero b e lt = absurd (omega (arith, e, lt))
-within [] (suc n) b e lt = absurd (omega (arith, e, lt))
-within (c ∷ bs) zero b e lt = omega arith
-within (c ∷ bs) (suc n) b e lt = omega (arith, within bs n b e lt)
+within bs n b e lt = ⊎_elim (λ (h : n < length bs). h) (λ (le : length bs ≤ n). absurd (omega (arith, get_or_past bs n 0 le, e, lt))) (cases_lt n (length bs))
 
 -- what a test of the byte at a place says of the bytes from there on
 from-place : (P : List ℕ → Type 0) (test : ℕ → Bool) → P [] → ((b : ℕ) (bs : List ℕ) → test b ≡ false → P (b ∷ bs)) → (bs : List ℕ) (n : ℕ) → test (get_or bs n 0) ≡ false → P (drop n bs)
@@ -228,18 +225,16 @@ pub record Bounds (bs : List ℕ) (n : ℕ) : Type 0 where
   pub first : get_or bs 0 0 < 128
   pub last : (m : ℕ) → n ≡ suc m → get_or bs m 0 < 128
 
-low-first : (bs : List ℕ) (n : ℕ) → BeginsLow (take n bs) → get_or bs 0 0 < 128
+low-first : (bs : List ℕ) (n : ℕ) → BeginsLow (take n bs) → (0 < n) × (get_or bs 0 0 < 128)
 low-first bs zero h = absurd h
 low-first [] (suc n) h = absurd h
-low-first (b ∷ bs) (suc n) h = h
-
-low-some : (bs : List ℕ) (n : ℕ) → BeginsLow (take n bs) → 0 < n
-low-some bs zero h = absurd h
-low-some bs (suc n) h = omega arith
+low-first (b ∷ bs) (suc n) h = (omega arith, h)
 
 pub bounds : (bs : List ℕ) (x : Kind × ℕ) → IsFront bs x → Bounds bs x.1
-bounds bs x h = let low = slice-low x.0 _ _ h.1 in
-    record { some = low-some bs x.1 low.0; within = h.0; first = low-first bs x.1 low.0; last = λ m e. low-at bs m (subst (λ k. EndsLow (take k bs)) e low.1) }
+bounds bs x h =
+    let low = slice-low x.0 _ _ h.1 in
+    let first = low-first bs x.1 low.0 in
+    record { some = first.0; within = h.0; first = first.1; last = λ m e. low-at bs m (subst (λ k. EndsLow (take k bs)) e low.1) }
 
 pub starts-cut : (text : List ℕ) (at n : ℕ) → at < length text → Bounds (drop at text) n → IsCharBoundary text at
 starts-cut text at n lt b =

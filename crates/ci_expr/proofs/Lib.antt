@@ -1,8 +1,5 @@
-pub mod Lexing
 pub mod Fronts
 pub mod FoundLemmas
-pub mod Descending
-pub mod KindLemmas
 pub mod Parts
 pub mod ReadIsDerived
 pub mod DerivedIsRead
@@ -11,9 +8,5 @@ pub mod ParseLemmas
 pub mod FrontLemmas
 pub mod TokenLemmas
 pub mod OrderLemmas
-pub mod OneMeaning
-pub mod Budgets
-pub mod Writing
 pub mod Gathering
-pub mod Costs
 pub mod Answering

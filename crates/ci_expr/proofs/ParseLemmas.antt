@@ -1,11 +1,13 @@
--- What is computed of a list of tokens is what it means, and whatever it means is computed.
-use Rattle.std.proofs.Common.{◌≡◌, ℕ, true, false, List, Result, Ok, Err, refl, sym, subst, arith, ◌⊎◌, inl, inr, nat_lt}
+-- What is computed of a list of tokens is what it means, and whatever it means is computed; a text means one thing.
+use Rattle.std.proofs.Common.{◌≡◌, ℕ, true, false, List, Result, Ok, Err, refl, sym, ◌∙◌, subst, arith, ◌⊎◌, inl, inr, nat_lt}
 use Rattle.std.proofs.lemmas.Bool.{ltb-true, ltb-false, lt-ltb, cond_both, false_from_ne_true}
 use Rattle.ci_expr.specs.Prelude.{ExprCode, X4, X5, X6, X7, X8, ExprFault, Token, Formula, or, Derives, has_pattern, balances, deepest, has_stray, formula_from, Fails, Tokenizes}
-use Rattle.ci_expr.specs.Prelude.{Parses, Means, Allows, IsOwn, parse_by, parse_of, IsBuilt, IsBalanced, HasStray, IsDeep}
+use Rattle.ci_expr.specs.Prelude.{Parses, Means, Allows, IsOwn, parse_by, parse_of, IsBuilt, IsBalanced, HasStray, IsDeep, expression_of, ◌>>=◌, tokens_of, IsMeaning}
+use Rattle.ci_expr.specs.Prelude.{MeansOneThing}
 use Rattle.ci_expr.specs.Meaning.{Answers}
 use Rattle.ci_expr.proofs.OrderLemmas.{balances-is, balanced-balances, deepest-deep, deep-is, stray-is, has-stray}
 use Rattle.ci_expr.proofs.ReadIsDerived.{IsWhole, formula_from-is}
+use Rattle.ci_expr.proofs.TokenLemmas.{tokens_of-sound, tokens_of-only, tokens-own}
 use Rattle.ci_expr.proofs.Wholes.{formula_from-derived, derived-tidy}
 
 abbrev Parsed : Type 0
@@ -17,7 +19,7 @@ orderly-sound ts (Ok f) e d balanced tidy shallow = (shallow, d)
 orderly-sound ts (Err x) e only balanced tidy shallow =
     subst (λ y. Parses ts (Err y)) (sym only) (balanced, tidy, shallow, λ f d. let g = formula_from-derived ts f d in cc)
 
-pub parse_of-sound : (ts : List Token) → Parses ts (parse_of ts)
+parse_of-sound : (ts : List Token) → Parses ts (parse_of ts)
 parse_of-sound ts = cond_both (balances 0 ts) _ _ (λ o. Parses ts (parse_by ts o))
     (λ e. cond_both (has_stray false ts) _ _ (λ o. Parses ts (parse_by ts o))
     (λ f. (balances-is ts e, stray-is ts f))
@@ -64,7 +66,7 @@ own-by ts (Err x) e p = λ is. eighth (subst (λ y. Parses ts (Err y)) is p)
     eighth : Parses ts (Err X8) → ⊥
     eighth (never, (f, d, has)) = let g = parsed-formula ts f never d in cc
 
-pub parse_of-own : (ts : List Token) → IsOwn (parse_of ts)
+parse_of-own : (ts : List Token) → IsOwn (parse_of ts)
 parse_of-own ts = own-by ts (parse_of ts) refl (parse_of-sound ts)
 
 -- ---- the whole text
@@ -72,12 +74,15 @@ abbrev OfToken : List ℕ → Result (List Token) ExprCode → Type 0
 OfToken text r = (s : Result (List Token) ExprCode) → Tokenizes text s → s ≡ r
 
 -- a text without tokens
+untokenized : (text : List ℕ) (x : ExprCode) → OfToken text (Err x) → (r : Parsed) → Means text r → r ≡ Err x
+untokenized text x only (Ok f) (ts, t, p) = let e = only (Ok ts) t in absurd cc
+untokenized text x only (Err y) (inl t) = let e = only (Err y) t in cc
+untokenized text x only (Err y) (inr (ts, t, p)) = let e = only (Ok ts) t in absurd cc
+
 pub untokenized-error : {X : Type 0} (view : X → Formula) (text : List ℕ) (e : ExprFault) → ((s : Result (List Token) ExprCode) → Tokenizes text s → Fails e s) → (r : Parsed)
     → Means text r → Allows view (Err e) r
 untokenized-error view text ExprFault.Memory only r m = tt
-untokenized-error view text (ExprFault.Fault x) only (Ok f) (ts, t, p) = let e = only (Ok ts) t in absurd cc
-untokenized-error view text (ExprFault.Fault x) only (Err y) (inl t) = let e = only (Err y) t in cc
-untokenized-error view text (ExprFault.Fault x) only (Err y) (inr (ts, t, p)) = let e = only (Ok ts) t in absurd cc
+untokenized-error view text (ExprFault.Fault x) only r m = subst (Allows view (Err (ExprFault.Fault x))) (sym (untokenized text x only r m)) refl
 
 -- what a text with these tokens means is what they mean
 tokens-mean : (text : List ℕ) (ts : List Token) → OfToken text (Ok ts) → (r : Parsed) → Means text r → Parses ts r
@@ -91,7 +96,7 @@ tokens-mean text ts only = by-meaning
     by-meaning (Err y) (inl t) = let e = only (Err y) t in absurd cc
     by-meaning (Err y) (inr (us, t, p)) = same us (Err y) t p
 
-pub mean-tokens : (text : List ℕ) (ts : List Token) → Tokenizes text (Ok ts) → (r : Parsed) → Parses ts r → Means text r
+mean-tokens : (text : List ℕ) (ts : List Token) → Tokenizes text (Ok ts) → (r : Parsed) → Parses ts r → Means text r
 mean-tokens text ts t (Ok f) p = (ts, t, p)
 mean-tokens text ts t (Err x) p = inr (ts, t, p)
 
@@ -126,3 +131,23 @@ allowed view (Err (ExprFault.Fault x)) computed (Err y) (inr (is, w)) (inr (also
 pub parse-only : {X : Type 0} (view : X → Formula) (text : List ℕ) (ts : List Token) (b : Result X ExprFault) → OfToken text (Ok ts) → IsBuilt view b (parse_of ts) → (r : Parsed)
     → Means text r → Allows view b r
 parse-only view text ts b only h r m = allowed view b (parse_of ts) r h (parse_of-only ts r (tokens-mean text ts only r m))
+
+-- ---- each text means one formula or has one fault, a refused pattern aside: what is computed of it
+own-one : (ts : List Token) (r : Parsed) → IsOwn r → (parse_of ts ≡ r) ⊎ Refused (parse_of ts) r → r ≡ parse_of ts
+own-one ts r own (inl e) = sym e
+own-one ts (Ok f) own (inr w) = absurd cc
+own-one ts (Err x) own (inr w) = let is : x ≡ X8 = cc in absurd (own is)
+
+meaning : (text : List ℕ) (r : Result (List Token) ExprCode) → tokens_of text ≡ r → Tokenizes text r → IsMeaning text (r >>= parse_of)
+meaning text (Ok ts) e t = (
+  parse_of-own ts,
+  mean-tokens text ts t (parse_of ts) (parse_of-sound ts),
+  λ s own m. own-one ts s own (parse_of-only ts s (tokens-mean text ts (λ r u. sym (tokens_of-only text r u) ∙ e) s m)),
+)
+meaning text (Err x) e t = (tokens-own text x t, inl t, λ s own m. untokenized text x (λ r u. sym (tokens_of-only text r u) ∙ e) s m)
+
+pub computed : (text : List ℕ) → IsMeaning text (expression_of text)
+computed text = meaning text (tokens_of text) refl (tokens_of-sound text)
+
+pub one-meaning : MeansOneThing
+one-meaning text = (expression_of text, computed text)

@@ -6,8 +6,7 @@ use Rattle.ci_expr.specs.Prelude.{ExprCode, X4, Kind, Join, Token, ◌>>=◌, Op
 use Rattle.ci_expr.specs.Prelude.{Derives, single, several, in_group, alone, compared, matched, source_of, Read, behind, behind_byte, is_kind, operand_by, pattern_of, compared_by}
 use Rattle.ci_expr.specs.Prelude.{compared_from, matched_by, matched_from, sign_by, named_from, variable_by, test_by, joined_by, descend, reach, formula_from, whole_by}
 use Rattle.ci_expr.specs.Descent.{closed}
-use Rattle.ci_expr.proofs.KindLemmas.{is_kind-true, Headed, IsBehind, behind-is}
-use Rattle.ci_expr.proofs.Parts.{behind_byte-is, operand_by-is, pattern_of-is}
+use Rattle.ci_expr.proofs.Parts.{is_kind-true, Headed, IsBehind, behind-is, behind_byte-is, operand_by-is, pattern_of-is}
 
 -- a formula of a level at the front of a list of tokens
 pub record Cut (l : Level) (ts : List Token) (f : Formula) (rest : List Token) : Type 0 where

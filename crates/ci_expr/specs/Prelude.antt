@@ -15,7 +15,7 @@ pub use Rattle.ci_expr.specs.Formula.{has_pattern, in_group, joined, matched, ma
 pub use Rattle.ci_expr.specs.Found.{HasTables, IsAutomatonOf, IsNoPattern, IsPattern, IsRefused, config_of, found_by, is_found_in}
 pub use Rattle.ci_expr.specs.Lexeme.{body_length, escapes, lexeme, name_front, null_front, pattern_by, text_by, until, word_length}
 pub use Rattle.ci_expr.specs.Meaning.{Allows, AtMostOneFormula, AtMostOneList, IsBuilt, IsMeaning, IsOwn, Means, MeansOneThing, Parses, Tokenizes, parse_by, parse_of}
-pub use Rattle.ci_expr.specs.Order.{balances, closes_none, deepest, has_stray, is_pattern, list_fault, open_after}
+pub use Rattle.ci_expr.specs.Order.{balances, closes_none, deepest, has_stray, is_pattern, open_after}
 pub use Rattle.ci_expr.specs.Reading.{lex, token_from, tokens_of, with_token, ◌>>=◌}
 pub use Rattle.ci_expr.specs.Source.{source_of}
 pub use Rattle.ci_expr.specs.Token.{AreTokens, AreWord, BeginsNone, EndsWord, IsBody, IsFlag, IsFront, IsMark, Lacks, Spells, StaysOpen, Stops, Token, blank, empty, nothing, pair}

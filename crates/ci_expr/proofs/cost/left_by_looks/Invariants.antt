@@ -1,5 +1,5 @@
 use Rattle.ci_expr.specs.Prelude.{look_view, look_cost}
-use Rattle.ci_expr.proofs.Budgets.{Paid}
+use Rattle.ci_expr.proofs.Gathering.{Paid}
 use Rattle.ci_expr.proofs.cost.left_by_looks.Given as goal
 
 abbrev pub invariant-loop-look : goal.invariant-loop-look

@@ -1,5 +1,5 @@
 use Rattle.ci_expr.specs.Prelude.{pattern_view, cost_of}
-use Rattle.ci_expr.proofs.Budgets.{Paid}
+use Rattle.ci_expr.proofs.Gathering.{Paid}
 use Rattle.ci_expr.proofs.cost.left_by_patterns.Given as goal
 
 abbrev pub invariant-loop-pattern : goal.invariant-loop-pattern

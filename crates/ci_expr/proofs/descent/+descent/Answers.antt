@@ -1,7 +1,7 @@
 use Rattle.std.proofs.Common.{None, Ok, map, arith, ap}
 use Rattle.std.proofs.lemmas.Result.{err_from_is_err_and}
 use Rattle.ci_expr.specs.Prelude.{token_view, tree_view}
-use Rattle.ci_expr.proofs.Descending.{shorter, part-fails, part-alone, joined-reads, joined-fails, group-fails, group-by, in-joined}
+use Rattle.ci_expr.proofs.DerivedIsRead.{shorter, part-fails, part-alone, joined-reads, joined-fails, group-fails, group-by, in-joined}
 use Rattle.ci_expr.proofs.descent.+descent.Goals as goal
 
 pub chain_from-returns-in_err-first-clause-exact : goal.chain_from-returns-in_err-first-clause-exact

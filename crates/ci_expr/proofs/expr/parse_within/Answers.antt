@@ -1,8 +1,7 @@
 use Rattle.std.proofs.Common.{map, subst}
 use Rattle.std.proofs.lemmas.Result.{err_from_is_err_and}
 use Rattle.ci_expr.specs.Prelude.{token_view, tokens_view, IsBuilt, parse_of, formula_of}
-use Rattle.ci_expr.proofs.OneMeaning.{one-meaning}
-use Rattle.ci_expr.proofs.ParseLemmas.{untokenized-error, parse-answer, parse-only}
+use Rattle.ci_expr.proofs.ParseLemmas.{one-meaning, untokenized-error, parse-answer, parse-only}
 use Rattle.ci_expr.proofs.Wholes.{one-formula}
 use Rattle.ci_expr.proofs.expr.parse_within.Goals as goal
 

@@ -1,56 +1,45 @@
-use Rattle.std.proofs.Common.{rules, ◌≡◌, ◌++◌, ap, subst, sym, ◌∙◌, ◌||◌, ◌&&◌}
-use Rattle.ci_expr.specs.Prelude.{AreAnswered, values_of, formula_view, looks_in, joined, truth, Join}
-use Rattle.ci_expr.proofs.Answering.{answered_first, answered_second}
+use Rattle.std.proofs.Common.{rules, ◌≡◌, ◌++◌, Bool, true, false, not, refl, sym}
+use Rattle.ci_expr.specs.Prelude.{AreAnswered, Values, answered, same_look, values_of, formula_view, looks_in, joined, truth, Join}
+use Rattle.ci_expr.specs.declared.answers.Answers.{Answers}
+use Rattle.ci_expr.specs.declared.formula.Formula as formulas
+use Rattle.ci_expr.proofs.Answering.{among-left, among-right}
 use Rattle.ci_expr.proofs.formula.+truth.Goals as goal
 
+-- the value of the first part that decides
+abbrev deciding : Join → Bool
+deciding Join.Or = true
+deciding Join.And = false
+
+module _ (answers : Answers) (vs : Values) (a b : formulas.Formula) (j : Join) (x : Bool) (says : AreAnswered answers (looks_in vs a) → x ≡ truth vs (formula_view a))
+    (all : AreAnswered answers (looks_in vs a ++ looks_in vs b)) where
+  first : x ≡ truth vs (formula_view a)
+  first = says (among-left same_look (looks_in vs a) (looks_in vs b) (answered answers) all)
+
+  by-first : (k : Join) → j ≡ k → x ≡ deciding k → x ≡ truth vs (joined j (formula_view a) (formula_view b))
+  by-first Join.Or e is = rw (e, sym first, is) refl
+  by-first Join.And e is = rw (e, sym first, is) refl
+
+  by-second : (k : Join) (y : Bool) → j ≡ k → x ≡ not (deciding k) → (AreAnswered answers (looks_in vs b) → y ≡ truth vs (formula_view b))
+      → y ≡ truth vs (joined j (formula_view a) (formula_view b))
+  by-second Join.Or y e is second = rw (e, sym first, is) (second (among-right same_look (looks_in vs a) (looks_in vs b) (answered answers) all))
+  by-second Join.And y e is second = rw (e, sym first, is) (second (among-right same_look (looks_in vs a) (looks_in vs b) (answered answers) all))
+
 pub returns-then-truth : goal.returns-then-truth
-returns-then-truth t c = λ h.
-    let vs = values_of c.args.env.now in
-    let answers = c.args.answers.now in
-    let k = c.in-Joined-Or-default-default in
-    let join : k.field-0 ≡ Join.Or = search rules in
-    let parts : AreAnswered answers (looks_in vs k.a.value ++ looks_in vs k.b.value) = subst (λ f. AreAnswered answers (looks_in vs f)) k.is h in
-    let first : c.truth.result ≡ truth vs (formula_view k.a.value) =
-    subst (λ f. AreAnswered answers (looks_in vs f) → c.truth.result ≡ truth vs (formula_view f)) c.deref.ensures c.truth.ensures (answered_first answers (looks_in vs k.a.value) (looks_in vs k.b.value) parts) in
-    subst (λ f. c.truth.result ≡ truth vs (formula_view f)) (sym k.is)
-    (c.if-truth.true ∙ sym (ap (λ v. v || truth vs (formula_view k.b.value)) (sym first ∙ c.if-truth.true)) ∙ ap (λ j. truth vs (joined j (formula_view k.a.value) (formula_view k.b.value))) (sym join))
+returns-then-truth t c = let k = c.in-Joined-Or-default-default in rw k.is
+    (λ all. by-first c.args.answers.now (values_of c.args.env.now) k.a.value k.b.value k.field-0 c.truth.result (rw c.deref.ensures at c.truth.ensures) all
+    Join.Or (search rules) c.if-truth.true)
 
 pub returns-else-truth : goal.returns-else-truth
-returns-else-truth t c = λ h.
-    let vs = values_of c.args.env.now in
-    let answers = c.args.answers.now in
-    let k = c.in-Joined-Or-default-default in
-    let join : k.field-0 ≡ Join.Or = search rules in
-    let parts : AreAnswered answers (looks_in vs k.a.value ++ looks_in vs k.b.value) = subst (λ f. AreAnswered answers (looks_in vs f)) k.is h in
-    let first : c.truth.result ≡ truth vs (formula_view k.a.value) =
-    subst (λ f. AreAnswered answers (looks_in vs f) → c.truth.result ≡ truth vs (formula_view f)) c.deref.ensures c.truth.ensures (answered_first answers (looks_in vs k.a.value) (looks_in vs k.b.value) parts) in
-    let second : c.truth-else-truth.result ≡ truth vs (formula_view k.b.value) =
-    subst (λ f. AreAnswered answers (looks_in vs f) → c.truth-else-truth.result ≡ truth vs (formula_view f)) c.deref-else-truth.ensures c.truth-else-truth.ensures (answered_second answers (looks_in vs k.a.value) (looks_in vs k.b.value) parts) in
-    subst (λ f. c.truth-else-truth.result ≡ truth vs (formula_view f)) (sym k.is)
-    (second ∙ sym (ap (λ v. v || truth vs (formula_view k.b.value)) (sym first ∙ c.if-truth.false)) ∙ ap (λ j. truth vs (joined j (formula_view k.a.value) (formula_view k.b.value))) (sym join))
+returns-else-truth t c = let k = c.in-Joined-Or-default-default in rw k.is
+    (λ all. by-second c.args.answers.now (values_of c.args.env.now) k.a.value k.b.value k.field-0 c.truth.result (rw c.deref.ensures at c.truth.ensures) all
+    Join.Or c.truth-else-truth.result (search rules) c.if-truth.false (rw c.deref-else-truth.ensures at c.truth-else-truth.ensures))
 
 pub returns-then-truth-2 : goal.returns-then-truth-2
-returns-then-truth-2 t c = λ h.
-    let vs = values_of c.args.env.now in
-    let answers = c.args.answers.now in
-    let k = c.in-Joined-And-default-default in
-    let join : k.field-0 ≡ Join.And = search rules in
-    let parts : AreAnswered answers (looks_in vs k.a.value ++ looks_in vs k.b.value) = subst (λ f. AreAnswered answers (looks_in vs f)) k.is h in
-    let first : c.truth-in-Joined-And-default-default.result ≡ truth vs (formula_view k.a.value) =
-    subst (λ f. AreAnswered answers (looks_in vs f) → c.truth-in-Joined-And-default-default.result ≡ truth vs (formula_view f)) c.deref-in-Joined-And-default-default.ensures c.truth-in-Joined-And-default-default.ensures (answered_first answers (looks_in vs k.a.value) (looks_in vs k.b.value) parts) in
-    let second : c.truth-then-truth-2.result ≡ truth vs (formula_view k.b.value) =
-    subst (λ f. AreAnswered answers (looks_in vs f) → c.truth-then-truth-2.result ≡ truth vs (formula_view f)) c.deref-then-truth-2.ensures c.truth-then-truth-2.ensures (answered_second answers (looks_in vs k.a.value) (looks_in vs k.b.value) parts) in
-    subst (λ f. c.truth-then-truth-2.result ≡ truth vs (formula_view f)) (sym k.is)
-    (second ∙ sym (ap (λ v. v && truth vs (formula_view k.b.value)) (sym first ∙ c.if-truth-2.true)) ∙ ap (λ j. truth vs (joined j (formula_view k.a.value) (formula_view k.b.value))) (sym join))
+returns-then-truth-2 t c = let k = c.in-Joined-And-default-default in let first = c.truth-in-Joined-And-default-default in rw k.is
+    (λ all. by-second c.args.answers.now (values_of c.args.env.now) k.a.value k.b.value k.field-0 first.result (rw c.deref-in-Joined-And-default-default.ensures at first.ensures) all
+    Join.And c.truth-then-truth-2.result (search rules) c.if-truth-2.true (rw c.deref-then-truth-2.ensures at c.truth-then-truth-2.ensures))
 
 pub returns-else-truth-2 : goal.returns-else-truth-2
-returns-else-truth-2 t c = λ h.
-    let vs = values_of c.args.env.now in
-    let answers = c.args.answers.now in
-    let k = c.in-Joined-And-default-default in
-    let join : k.field-0 ≡ Join.And = search rules in
-    let parts : AreAnswered answers (looks_in vs k.a.value ++ looks_in vs k.b.value) = subst (λ f. AreAnswered answers (looks_in vs f)) k.is h in
-    let first : c.truth-in-Joined-And-default-default.result ≡ truth vs (formula_view k.a.value) =
-    subst (λ f. AreAnswered answers (looks_in vs f) → c.truth-in-Joined-And-default-default.result ≡ truth vs (formula_view f)) c.deref-in-Joined-And-default-default.ensures c.truth-in-Joined-And-default-default.ensures (answered_first answers (looks_in vs k.a.value) (looks_in vs k.b.value) parts) in
-    subst (λ f. c.truth-in-Joined-And-default-default.result ≡ truth vs (formula_view f)) (sym k.is)
-    (c.if-truth-2.false ∙ sym (ap (λ v. v && truth vs (formula_view k.b.value)) (sym first ∙ c.if-truth-2.false)) ∙ ap (λ j. truth vs (joined j (formula_view k.a.value) (formula_view k.b.value))) (sym join))
+returns-else-truth-2 t c = let k = c.in-Joined-And-default-default in let first = c.truth-in-Joined-And-default-default in rw k.is
+    (λ all. by-first c.args.answers.now (values_of c.args.env.now) k.a.value k.b.value k.field-0 first.result (rw c.deref-in-Joined-And-default-default.ensures at first.ensures) all
+    Join.And (search rules) c.if-truth-2.false)

@@ -1,4 +1,4 @@
-use Rattle.ci_expr.proofs.Costs.{measured}
+use Rattle.ci_expr.proofs.Answering.{measured}
 use Rattle.ci_expr.proofs.laws.measures_each_pattern.Goals as goal
 
 pub returns : goal.returns

@@ -1,7 +1,7 @@
 use Rattle.std.proofs.Common.{◌∙◌, arith, subst, sym, ap, map}
 use Rattle.std.proofs.lemmas.List.{map_push}
 use Rattle.ci_expr.specs.Prelude.{token_view}
-use Rattle.ci_expr.proofs.Lexing.{Steps, steps-start, steps-blank, steps-token, fails-of}
+use Rattle.ci_expr.proofs.TokenLemmas.{Steps, steps-start, steps-blank, steps-token, fails-of}
 use Rattle.ci_expr.proofs.token.read_tokens.Goals as goal
 
 pub all-init : goal.all-init

@@ -1,6 +1,6 @@
 use Rattle.std.proofs.Common.{arith, ◌∙◌, sym}
 use Rattle.std.proofs.lemmas.Grind.{common_steps}
-use Rattle.ci_expr.proofs.Writing.{same-written}
+use Rattle.ci_expr.proofs.Answering.{same-written}
 use Rattle.ci_expr.proofs.budget.PatternBudget.known.Goals as goal
 
 pub returns-then-is_written-clause-same : goal.returns-then-is_written-clause-same
