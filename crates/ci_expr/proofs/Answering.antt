@@ -1,7 +1,7 @@
 -- What an expression looks for, and lists of which each is among others.
-use Rattle.std.proofs.Common.{◌≡◌, ◌++◌, false, [], refl, ap₂, ◌≢◌, ℕ, zero, suc, ◌+◌, ◌<◌, Bool, true, List, ◌∷◌, length, get_or, take, drop, filter, map, ap, sym, subst, ◌∙◌}
-use Rattle.std.proofs.Common.{⊎_elim, arith, if◌then◌else◌, ◌||◌, ◌&&◌, flat_map}
-use Rattle.std.proofs.lemmas.Bool.{or_parts, or_cases, or_left, or_right, and_parts}
+use Rattle.std.proofs.Common.{◌≡◌, ◌++◌, false, [], refl, ap₂, ℕ, zero, suc, ◌+◌, ◌<◌, Bool, true, List, ◌∷◌, length, get_or, take, drop, filter, map, ap, sym, subst, ◌∙◌, ⊎_elim}
+use Rattle.std.proofs.Common.{arith, if◌then◌else◌, ◌||◌, ◌&&◌, flat_map}
+use Rattle.std.proofs.lemmas.Bool.{or_parts, or_cases, or_left, or_right, and_parts, true_from_ne_false}
 use Rattle.std.specs.Str.{bytes_eq}
 use Rattle.std.proofs.lemmas.Slice.Eq.{bytes_eq-Decides}
 use Rattle.std.proofs.lemmas.List.{at_drop_more, take_more, map-append}
@@ -162,10 +162,12 @@ made_next is_made ls i l lt is =
     ∙ ap (λ y. filter is_made (looks_view (y ∷ drop (i + 1) ls))) (sym is)
 
 -- where there is something to look for, there is a pattern
-refused_by : (vs : Values) (f : formulas.Formula) (ls : List Look) (b : Bool) → has_pattern (formula_view f) ≡ b → ls ≡ distinct same_look (looks_in vs f) → ls ≢ [] → b ≡ true
-refused_by vs f ls true h gathered some = refl
-refused_by vs f ls false h gathered some = absurd (some (gathered ∙ ap (λ ms. distinct same_look ms) ((no-patterns f h).1 vs)))
-
 pub refused_looks : (vs : Values) (f : formulas.Formula) (e : ExprFault) (ls : List Look) → ls ≡ distinct same_look (looks_in vs f) → RefusesLooks e ls → RefusesPattern e (formula_view f)
 refused_looks vs f ExprFault.Memory ls gathered h = tt
-refused_looks vs f (ExprFault.Fault x) ls gathered h = (h.0, refused_by vs f ls (has_pattern (formula_view f)) refl gathered h.1)
+refused_looks vs f (ExprFault.Fault x) ls gathered h =
+    (h.0, true_from_ne_false (has_pattern (formula_view f)) (λ none. h.1 (gathered ∙ ap (distinct same_look) ((no-patterns f none).1 vs))))
+
+-- what was put into an empty list is each once
+pub gathered_looks : (now items start : List looks.Look) (ls : List Look) → now ≡ items → looks_view items ≡ with_each same_look (looks_view start) ls → start ≡ []
+    → looks_view now ≡ distinct same_look ls
+gathered_looks now items start ls e put none = rw e (rw none at put)

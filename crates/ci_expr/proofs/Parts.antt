@@ -91,18 +91,15 @@ pub behind_byte-at : (q : ℕ) (n : List ℕ) → behind_byte q (q ∷ n) ≡ So
 behind_byte-at q n = cond-true (q == q) (Some n) None (eq-eqb q q refl)
 
 -- ---- the last byte
-last-cut : (s : List ℕ) (m : ℕ) → length s ≡ suc m → s ≡ take m s ++ get_or s m 0 ∷ []
-last-cut s m e = sym (take_all (suc m) s (omega (arith, e))) ∙ take-suc s m 0 (omega (arith, e))
+last-cut : (s : List ℕ) (q m : ℕ) → length s - 1 ≡ m → get_or s m 0 ≡ q → 0 < q → s ≡ take m s ++ q ∷ []
+last-cut s q m e is some =
+    let past : m < length s = within s m q is some in
+    sym (take_all (suc m) s (omega (arith, e))) ∙ take-suc s m 0 past ∙ ap (λ x. take m s ++ x ∷ []) is
 
-last-of : (s : List ℕ) (q m : ℕ) → length s - 1 ≡ m → get_or s m 0 ≡ q → 0 < q → length s ≡ suc m
-last-of s q m e is some = omega (arith, e, within s m q is some)
-
-pub before_byte-is : (q : ℕ) (s n : List ℕ) → 0 < q → before_byte q s ≡ Some n → s ≡ n ++ q ∷ []
+before_byte-is : (q : ℕ) (s n : List ℕ) → 0 < q → before_byte q s ≡ Some n → s ≡ n ++ q ∷ []
 before_byte-is q s n some e =
-    let m : ℕ = length s - 1 in
-    let w = cond_some (get_or s m 0 == q) (take m s) n e in
-    let last : get_or s m 0 ≡ q = eqb-true (get_or s m 0) q w.0 in
-    last-cut s m (last-of s q m refl last some) ∙ ap (λ x. take m s ++ x ∷ []) last ∙ ap (λ xs. xs ++ q ∷ []) w.1
+    let w = cond_some (get_or s (length s - 1) 0 == q) (take (length s - 1) s) n e in
+    last-cut s q (length s - 1) refl (eqb-true _ q w.0) some ∙ ap (λ xs. xs ++ q ∷ []) w.1
 
 before_byte-by : (q : ℕ) (bs : List ℕ) (p : ℕ) → before_byte q (bs ++ p ∷ []) ≡ cond (p == q) (Some bs) None
 before_byte-by q bs p =

@@ -59,9 +59,8 @@ same_pattern p q = same_flag p.insensitive q.insensitive && bytes_eq p.source q.
 abbrev pub patterns_in : formulas.Formula → List Pattern
 patterns_in (Joined' j p a q b) = patterns_in a ++ patterns_in b
 patterns_in (Group' p a) = patterns_in a
-patterns_in (Present name) = []
-patterns_in (Equal negated name subject) = []
 patterns_in (Found negated name pattern) = pattern_view pattern.value ∷ []
+patterns_in _ = []
 
 -- the patterns of an expression, in their order
 abbrev pub patterns_of : Expr → List Pattern
@@ -96,10 +95,8 @@ same_look a b = same_pattern a.pattern b.pattern && bytes_eq a.text b.text
 abbrev pub looks_in : Values → formulas.Formula → List Look
 looks_in vs (Joined' j p a q b) = looks_in vs a ++ looks_in vs b
 looks_in vs (Group' p a) = looks_in vs a
-looks_in vs (Present name) = []
-looks_in vs (Equal negated name subject) = []
-looks_in vs (Found negated name pattern) =
-    record { pattern = pattern_view pattern.value; text = unwrap_or (value_of vs (string_bytes name)) [] } ∷ []
+looks_in vs (Found negated name pattern) = record { pattern = pattern_view pattern.value; text = unwrap_or (value_of vs (string_bytes name)) [] } ∷ []
+looks_in vs _ = []
 
 -- what an expression looks for, each pattern in the value of its variable
 abbrev pub looks_of : Values → Expr → List Look
@@ -113,9 +110,8 @@ look_cost l = text_cost l.pattern.source l.pattern.bytes (length l.text + 1)
 abbrev pub AreMeasured : formulas.Formula → Type 0
 AreMeasured (Joined' j p a q b) = AreMeasured a × AreMeasured b
 AreMeasured (Group' p a) = AreMeasured a
-AreMeasured (Present name) = ⊤
-AreMeasured (Equal negated name subject) = ⊤
 AreMeasured (Found negated name pattern) = HasTables pattern.value.insensitive (string_bytes pattern.value.source) pattern.value.bytes
+AreMeasured _ = ⊤
 
 abbrev pub IsMeasured : Expr → Type 0
 IsMeasured e = AreMeasured e.root

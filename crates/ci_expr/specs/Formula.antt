@@ -90,6 +90,5 @@ pub data Derives : Level → List Token → Formula → Type 0 where
 abbrev pub has_pattern : Formula → Bool
 has_pattern (joined j f g) = has_pattern f || has_pattern g
 has_pattern (group f) = has_pattern f
-has_pattern (present name) = false
-has_pattern (equal negated name operand) = false
 has_pattern (found negated name source insensitive) = true
+has_pattern _ = false

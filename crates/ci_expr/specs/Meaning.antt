@@ -4,7 +4,7 @@ use Rattle.ci_expr.specs.declared.fault.ExprCode.{ExprCode}
 use Rattle.ci_expr.specs.declared.fault.ExprCode.TheVariants.{X1, X4, X5, X6, X7, X8}
 use Rattle.ci_expr.specs.declared.fault.ExprFault.{ExprFault}
 use Rattle.ci_expr.specs.Token.{Token, AreTokens, Stops}
-use Rattle.ci_expr.specs.Formula.{Formula, joined, group, present, equal, found, or, Derives, has_pattern}
+use Rattle.ci_expr.specs.Formula.{Formula, joined, group, found, or, Derives, has_pattern}
 use Rattle.ci_expr.specs.Found.{IsPattern}
 use Rattle.ci_expr.specs.Faults.{IsBalanced, HasStray, IsDeep}
 use Rattle.ci_expr.specs.Order.{list_fault}
@@ -54,9 +54,8 @@ Allows view (Err (ExprFault.Fault x)) (Err y) = y ≡ x
 abbrev pub ArePatterns : Formula → Type 0
 ArePatterns (joined j f g) = ArePatterns f × ArePatterns g
 ArePatterns (group f) = ArePatterns f
-ArePatterns (present name) = ⊤
-ArePatterns (equal negated name operand) = ⊤
 ArePatterns (found negated name source insensitive) = IsPattern insensitive source
+ArePatterns _ = ⊤
 
 -- a formula, or a fault that is the text's own and not that of `regex`
 abbrev pub IsOwn : Result Formula ExprCode → Type 0

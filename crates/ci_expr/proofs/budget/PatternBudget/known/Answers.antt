@@ -7,13 +7,7 @@ pub returns-then-is_written-clause-same : goal.returns-then-is_written-clause-sa
 returns-then-is_written-clause-same c = same-written _ _ _ _ (sym (c.is_written.ensures 0) ∙ c.if-is_written.true)
 
 pub returns-then-is_written-clause-known : goal.returns-then-is_written-clause-known
-returns-then-is_written-clause-known c = λ bytes.
-    let before = c.loop-pattern.invariant bytes in
-    let here = c.is_written.ensures bytes in
-    grind (arith, common_steps, before, here, c.pattern-item.is)
+returns-then-is_written-clause-known c = λ bytes. grind (arith, common_steps, c.loop-pattern.invariant bytes, c.is_written.ensures bytes, c.pattern-item.is)
 
 pub loop-pattern-preserved : goal.loop-pattern-preserved
-loop-pattern-preserved c = λ bytes.
-    let before = c.loop-pattern.invariant bytes in
-    let here = c.is_written.ensures bytes in
-    grind (arith, common_steps, before, here, c.pattern-item.is)
+loop-pattern-preserved c = λ bytes. grind (arith, common_steps, c.loop-pattern.invariant bytes, c.is_written.ensures bytes, c.pattern-item.is)
