@@ -2,10 +2,10 @@
 use Rattle.std.proofs.Common.{◌≡◌, ℕ, zero, suc, ◌<◌, ◌≤◌, List, ◌∷◌, length, map, Option, None, Some, Ok, Err, sym, ◌∙◌, ap, arith, Bool, true, false, [], ◌++◌, refl, subst}
 use Rattle.std.proofs.Common.{append_assoc}
 use Rattle.std.proofs.lemmas.List.{length-map, length-append}
-use Rattle.std.proofs.lemmas.Bool.{not-true, cond-true}
+use Rattle.std.proofs.lemmas.Bool.{not-true}
 use Rattle.ci_expr.specs.Prelude.{ExprFault, Kind, Token, ◌>>=◌, Join, Formula, joined, Level, chain, or, test, part, sign, Read, behind, behind_byte, joined_by, test_by}
-use Rattle.ci_expr.specs.Prelude.{variable_by, descend, height, reach, Fails, token_view, X4, Operand, group, present, equal, found, comparing, matching, IsNamed, IsOperand}
-use Rattle.ci_expr.specs.Prelude.{IsPatternOf, Derives, single, several, in_group, alone, compared, matched, pattern_of, compared_by, matched_by, matched_from, sign_by, named_from}
+use Rattle.ci_expr.specs.Prelude.{variable_by, descend, height, reach, Fails, token_view, Operand, group, present, equal, found, comparing, matching, IsNamed, IsOperand}
+use Rattle.ci_expr.specs.Prelude.{IsPatternOf, Derives, single, several, in_group, alone, compared, matched, compared_by, matched_from, sign_by, named_from}
 use Rattle.ci_expr.specs.declared.token.Token as rust
 use Rattle.ci_expr.specs.Descent.{closed}
 use Rattle.ci_expr.proofs.Parts.{is_kind-at, behind-at, is_sign, ends, Ends, ends-part, none-behind, sign-ends, behind_byte-at, operand_by-at, pattern_of-at}
@@ -73,10 +73,6 @@ pub name-by : (ts rest : List Token) (t : Token) (o : Option (List ℕ)) → ts 
 name-by ts rest t o is name e zero le = absurd (omega (arith, le))
 name-by ts rest t o is name e (suc n) le = ap (descend (suc n) test) is ∙ ap (test_by (descend n or) t.slice rest) name ∙ ap (variable_by rest) (sym e)
 
--- ---- what a box holds
-pub in-joined : (j : Join) (r : Read) (rest : List Token) (f g p q : Formula) → p ≡ f → q ≡ g → r ≡ Ok (joined j f g, rest) → r ≡ Ok (joined j p q, rest)
-in-joined j r rest f g p q e d h = cc
-
 -- ---- what is derived
 -- the tokens are read as the formula, whatever follows that doesn't make it longer
 abbrev pub IsRead : Level → List Token → Formula → Type 0
@@ -98,15 +94,10 @@ named-compared : (negated : Bool) (name : List ℕ) (c w : Token) (operand : Ope
 named-compared false name c w operand rest e h = ap (sign_by name c (w ∷ rest)) e ∙ ap (compared_by false name rest) (operand_by-at w operand h)
 named-compared true name c w operand rest e h = ap (sign_by name c (w ∷ rest)) e ∙ ap (compared_by true name rest) (operand_by-at w operand h)
 
-abbrev read_found : Bool → List ℕ → List Token → Bool → List ℕ → Read
-read_found negated name rest insensitive source = Ok (found negated name source insensitive, rest)
-
 matched-by : (negated : Bool) (name : List ℕ) (w : Token) (source : List ℕ) (insensitive : Bool) (rest : List Token) → IsPatternOf source insensitive w
     → matched_from negated name (w ∷ rest) ≡ Ok (found negated name source insensitive, rest)
 matched-by negated name w source insensitive rest (is, (body, spelled, source-is)) =
-    cond-true _ (matched_by negated name rest (pattern_of w.slice)) (Err X4) (is_kind-at w.kind Kind.Pattern is)
-    ∙ ap (matched_by negated name rest) (pattern_of-at w body insensitive spelled)
-    ∙ ap (read_found negated name rest insensitive) (sym source-is)
+    rw (is_kind-at w.kind Kind.Pattern is, pattern_of-at w body insensitive spelled, source-is) refl
 
 named-matched : (negated : Bool) (name : List ℕ) (c w : Token) (source : List ℕ) (insensitive : Bool) (rest : List Token) → c.kind ≡ matching negated → IsPatternOf source insensitive w
     → named_from name (c ∷ w ∷ rest) ≡ Ok (found negated name source insensitive, rest)

@@ -75,10 +75,7 @@ spelled-read Pattern s rest (body, flag, e, is, fits) = subst (IsReadAs Pattern 
 spelled-read k s rest h = subst (IsReadAs k rest) (sym h) refl
 
 -- ---- what stays open is read so
-abbrev NeverEnds : List ℕ → Type 0
-NeverEnds bs = (body rest : List ℕ) → bs ≡ body ++ 47 ∷ rest → IsBody body → ⊥
-
-never-ends : (bs : List ℕ) → NeverEnds bs → (o : Option ℕ) → IsEnd false bs o → o ≡ None
+never-ends : (bs : List ℕ) → ((body rest : List ℕ) → bs ≡ body ++ 47 ∷ rest → IsBody body → ⊥) → (o : Option ℕ) → IsEnd false bs o → o ≡ None
 never-ends bs never None w = refl
 never-ends bs never (Some n) (lt, cut, body) = absurd (never (take n bs) (drop (suc n) bs)
     (sym (take-append-drop (suc n) bs) ∙ ap (λ ys. ys ++ drop (suc n) bs) cut ∙ append_assoc (take n bs) (47 ∷ []) (drop (suc n) bs)) body)
@@ -91,12 +88,9 @@ open-read _ (pattern bs never) = ap (pattern_by bs) (never-ends bs never (body_l
 none-begins : (bs : List ℕ) (x : ExprCode) → lexeme bs ≡ Err x → BeginsNone bs
 none-begins bs x e kind slice rest is spells = let h = spelled-read kind slice rest spells in let f = ap lexeme is in cc
 
-not-open : (bs : List ℕ) → lexeme bs ≡ Err X2 → StaysOpen bs → ⊥
-not-open bs e h = let f = open-read bs h in cc
-
 -- what isn't read stops the tokens
 pub unread-stops : (b : ℕ) (bs : List ℕ) (x : ExprCode) → is_blank b ≡ false → lexeme (b ∷ bs) ≡ Err x → IsFrontFault (b ∷ bs) x → Stops (b ∷ bs) x
-unread-stops b bs X2 blank e h = wrong b bs blank (none-begins (b ∷ bs) X2 e) (not-open (b ∷ bs) e)
+unread-stops b bs X2 blank e h = wrong b bs blank (none-begins (b ∷ bs) X2 e) (λ h. let f = open-read (b ∷ bs) h in cc)
 unread-stops b bs X3 blank e stays = unclosed (b ∷ bs) stays
 unread-stops b bs _ blank e h = absurd h
 

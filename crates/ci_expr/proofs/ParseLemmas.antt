@@ -100,16 +100,14 @@ mean-tokens : (text : List ℕ) (ts : List Token) → Tokenizes text (Ok ts) →
 mean-tokens text ts t (Ok f) p = (ts, t, p)
 mean-tokens text ts t (Err x) p = inr (ts, t, p)
 
-refused-parses : (ts : List Token) (f : Formula) → parse_of ts ≡ Ok f → has_pattern f ≡ true → Parses ts (Err X8)
-refused-parses ts f e has = let p : Parses ts (Ok f) = subst (Parses ts) e (parse_of-sound ts) in (p.0, (f, p.1, has))
-
 pub parse-answer : {X : Type 0} (view : X → Formula) (text : List ℕ) (ts : List Token) (r : Result X ExprFault) → Tokenizes text (Ok ts) → IsBuilt view r (parse_of ts)
     → Answers view r (Means text)
 parse-answer view text ts (Ok x) t h = mean-tokens text ts t (Ok (view x)) (subst (Parses ts) h (parse_of-sound ts))
 parse-answer view text ts (Err ExprFault.Memory) t h = tt
 parse-answer view text ts (Err (ExprFault.Fault x)) t (inl e) = mean-tokens text ts t (Err x) (subst (Parses ts) e (parse_of-sound ts))
 parse-answer view text ts (Err (ExprFault.Fault x)) t (inr (is, (f, e, has))) =
-    subst (λ y. Means text (Err y)) (sym is) (mean-tokens text ts t (Err X8) (refused-parses ts f e has))
+    let p : Parses ts (Ok f) = subst (Parses ts) e (parse_of-sound ts) in
+    subst (λ y. Means text (Err y)) (sym is) (mean-tokens text ts t (Err X8) (p.0, (f, p.1, has)))
 
 same-pattern : (f g : Formula) (computed : Parsed) → computed ≡ Ok f → computed ≡ Ok g → has_pattern f ≡ true → has_pattern g ≡ true
 same-pattern f g computed d e has = let is : f ≡ g = cc in subst (λ h. has_pattern h ≡ true) is has

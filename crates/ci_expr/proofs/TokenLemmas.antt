@@ -226,12 +226,9 @@ steps-token text at front t lt e f grows le (suc n, more, h) =
           ∙ ap (with_front front) (sym (by-token text at n (Ok t) lt e f)) ∙ h,
     )
 
-pub steps-fault : (text : List ℕ) (at : ℕ) (front : List Token) (f : ExprCode) → at < length text → is_blank (get_or text at 0) ≡ false
-    → token_from at (drop at text) ≡ Err f → Steps text at front → lex (length text) 0 text ≡ Err f
-steps-fault text at front f lt e r (zero, more, h) = absurd (omega (arith, lt, more))
-steps-fault text at front f lt e r (suc n, more, h) = sym h ∙ ap (with_front front) (by-token text at n (Err f) lt e r)
-
 pub fails-of : (text : List ℕ) (at : ℕ) (front : List Token) (stop : ExprFault) → length text ≤ 1024 → at < length text → is_blank (get_or text at 0) ≡ false
     → Fails stop (token_from at (drop at text)) → Steps text at front → Fails stop (tokens_of text)
 fails-of text at front ExprFault.Memory small lt e r h = tt
-fails-of text at front (ExprFault.Fault f) small lt e r h = tokens_of-short text small ∙ steps-fault text at front f lt e r h
+fails-of text at front (ExprFault.Fault f) small lt e r (zero, more, h) = absurd (omega (arith, lt, more))
+fails-of text at front (ExprFault.Fault f) small lt e r (suc n, more, h) =
+    tokens_of-short text small ∙ sym h ∙ ap (with_front front) (by-token text at n (Err f) lt e r)

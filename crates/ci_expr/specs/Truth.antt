@@ -15,9 +15,8 @@ value_of [] name = None
 value_of (v ∷ vs) name = if bytes_eq v.0 name then Some v.1 else value_of vs name
 
 abbrev pub is_filled : Option (List ℕ) → Bool
-is_filled None = false
-is_filled (Some []) = false
 is_filled (Some (b ∷ bs)) = true
+is_filled _ = false
 
 -- `null` is no value
 abbrev pub operand_value : Values → Operand → Option (List ℕ)
@@ -27,9 +26,8 @@ operand_value vs (variable name) = value_of vs name
 
 abbrev pub same_value : Option (List ℕ) → Option (List ℕ) → Bool
 same_value None None = true
-same_value None (Some y) = false
-same_value (Some x) None = false
 same_value (Some x) (Some y) = bytes_eq x y
+same_value _ _ = false
 
 abbrev pub negated_by : Bool → Bool → Bool
 negated_by false b = b

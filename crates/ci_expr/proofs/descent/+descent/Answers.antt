@@ -1,7 +1,7 @@
 use Rattle.std.proofs.Common.{None, Ok, map, arith, ap}
 use Rattle.std.proofs.lemmas.Result.{err_from_is_err_and}
 use Rattle.ci_expr.specs.Prelude.{token_view, tree_view}
-use Rattle.ci_expr.proofs.DerivedIsRead.{shorter, part-fails, part-alone, joined-reads, joined-fails, group-fails, group-by, in-joined}
+use Rattle.ci_expr.proofs.DerivedIsRead.{shorter, part-fails, part-alone, joined-reads, joined-fails, group-fails, group-by}
 use Rattle.ci_expr.proofs.descent.+descent.Goals as goal
 
 pub chain_from-returns-in_err-first-clause-exact : goal.chain_from-returns-in_err-first-clause-exact
@@ -23,8 +23,7 @@ chain_from-returns-in_err-others-in-Some-clause-exact t c =
 
 pub chain_from-returns-in_ok-others-in-Some-2-clause-exact : goal.chain_from-returns-in_ok-others-in-Some-2-clause-exact
 chain_from-returns-in_ok-others-in-Some-2-clause-exact t c = λ n le.
-    in-joined c.args.join _ (map token_view c.in_ok-others-in-Some.rest.now) (tree_view c.in_ok-first.first) (tree_view c.in_ok-others-in-Some.others) _ _
-    (ap tree_view c.in_ok-first-in-Some.ensures.ok) (ap tree_view c.in_ok-others-in-Some-2.ensures.ok)
+    rw (c.in_ok-first-in-Some.ensures.ok, c.in_ok-others-in-Some-2.ensures.ok)
     (joined-reads c.args.join (map token_view c.args.tokens.now) (map token_view c.in_ok-first.rest.now) (map token_view c.in-Some.more.now)
     (tree_view c.in_ok-first.first) (Ok (tree_view c.in_ok-others-in-Some.others, map token_view c.in_ok-others-in-Some.rest.now)) c.in_ok-first.ensures.exact
     (rw c.sign_of.ensures at c.in-Some.ensures.value)
