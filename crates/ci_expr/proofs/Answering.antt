@@ -98,7 +98,8 @@ module _ {A : Type 0} (same : A → A → Bool) where
   kept-or-not x y ys false h = h
 
   -- an element for which the test holds is among those for which it does
-  pub among-filtered : {B : Type 0} (view : B → A) (test : A → Bool) (bs : List B) (i : ℕ) (b : B) → i < length bs → b ≡ get_or bs i b → test (view b) ≡ true → same (view b) (view b) ≡ true
+  pub among-filtered : {B : Type 0} (view : B → A) (test : A → Bool) (bs : List B) (i : ℕ) (b : B) → i < length bs → b ≡ get_or bs i b → test (view b) ≡ true
+      → same (view b) (view b) ≡ true
       → is_among same (view b) (filter test (map view bs)) ≡ true
   among-filtered view test [] i b lt is holds itself = absurd (omega arith)
   among-filtered view test (c ∷ cs) zero b lt is holds itself =
@@ -133,7 +134,8 @@ module _ {A : Type 0} (same : A → A → Bool) (alike : (a b y : A) → same a 
       (λ (e : is_among same x ys ≡ true). among-among x ys zs h.1 e)
       (or_cases (same x y) (is_among same x ys) one)
 
-  with-one : (seen : List A) (x : A) (zs : List A) (b : Bool) → is_among same x seen ≡ b → AreAmong same (if b then seen else seen ++ x ∷ []) zs → AreAmong same seen zs × (is_among same x zs ≡ true)
+  with-one : (seen : List A) (x : A) (zs : List A) (b : Bool) → is_among same x seen ≡ b → AreAmong same (if b then seen else seen ++ x ∷ []) zs
+      → AreAmong same seen zs × (is_among same x zs ≡ true)
   with-one seen x zs true e h = (h, among-among x seen zs h e)
   with-one seen x zs false e h = (among-left same seen (x ∷ []) zs h, (among-right same seen (x ∷ []) zs h).0)
 
@@ -156,13 +158,15 @@ answered_each a ls h = among-distinct same_look look-alike ls (answered a) h
 
 -- those that are to be made, one further
 pub made_next : (is_made : Look → Bool) (ls : List looks.Look) (i : ℕ) (l : looks.Look) → i < length ls → l ≡ get_or ls i l
-    → filter is_made (looks_view (drop i ls)) ≡ if is_made (look_view l) then look_view l ∷ filter is_made (looks_view (drop (i + 1) ls)) else filter is_made (looks_view (drop (i + 1) ls))
+    → filter is_made (looks_view (drop i ls))
+    ≡ if is_made (look_view l) then look_view l ∷ filter is_made (looks_view (drop (i + 1) ls)) else filter is_made (looks_view (drop (i + 1) ls))
 made_next is_made ls i l lt is =
     at_drop_more (λ xs. filter is_made (looks_view xs)) ls i l lt
     ∙ ap (λ y. filter is_made (looks_view (y ∷ drop (i + 1) ls))) (sym is)
 
 -- where there is something to look for, there is a pattern
-pub refused_looks : (vs : Values) (f : formulas.Formula) (e : ExprFault) (ls : List Look) → ls ≡ distinct same_look (looks_in vs f) → RefusesLooks e ls → RefusesPattern e (formula_view f)
+pub refused_looks : (vs : Values) (f : formulas.Formula) (e : ExprFault) (ls : List Look) → ls ≡ distinct same_look (looks_in vs f) → RefusesLooks e ls
+    → RefusesPattern e (formula_view f)
 refused_looks vs f ExprFault.Memory ls gathered h = tt
 refused_looks vs f (ExprFault.Fault x) ls gathered h =
     (h.0, true_from_ne_false (has_pattern (formula_view f)) (λ none. h.1 (gathered ∙ ap (distinct same_look) ((no-patterns f none).1 vs))))

@@ -99,7 +99,8 @@ matched-by : (negated : Bool) (name : List ℕ) (w : Token) (source : List ℕ) 
 matched-by negated name w source insensitive rest (is, (body, spelled, source-is)) =
     rw (is_kind-at w.kind Kind.Pattern is, pattern_of-at w body insensitive spelled, source-is) refl
 
-named-matched : (negated : Bool) (name : List ℕ) (c w : Token) (source : List ℕ) (insensitive : Bool) (rest : List Token) → c.kind ≡ matching negated → IsPatternOf source insensitive w
+named-matched : (negated : Bool) (name : List ℕ) (c w : Token) (source : List ℕ) (insensitive : Bool) (rest : List Token) → c.kind ≡ matching negated
+    → IsPatternOf source insensitive w
     → named_from name (c ∷ w ∷ rest) ≡ Ok (found negated name source insensitive, rest)
 named-matched false name c w source insensitive rest e h = ap (sign_by name c (w ∷ rest)) e ∙ matched-by false name w source insensitive rest h
 named-matched true name c w source insensitive rest e h = ap (sign_by name c (w ∷ rest)) e ∙ matched-by true name w source insensitive rest h
@@ -115,7 +116,8 @@ joined-read j left t right f g a is b rest h =
     (joined-reads j (left ++ t ∷ behind) (t ∷ behind) behind f (Ok (g, rest)) (a (t ∷ behind) (ap (ends (part j)) is ∙ sign-ends j)) (behind-at (sign j) t behind is)
     (omega (arith, length-append left (t ∷ behind))) (b rest h))
 
-group-read : (l : Token) (inner : List Token) (r : Token) (f : Formula) → l.kind ≡ Kind.Left → IsRead or inner f → r.kind ≡ Kind.Right → IsRead test (l ∷ (inner ++ r ∷ [])) (group f)
+group-read : (l : Token) (inner : List Token) (r : Token) (f : Formula) → l.kind ≡ Kind.Left → IsRead or inner f → r.kind ≡ Kind.Right
+    → IsRead test (l ∷ (inner ++ r ∷ [])) (group f)
 group-read l inner r f left a right rest h =
     subst (λ us. Descends test (l ∷ us) (Ok (group f, rest))) (sym (append_assoc inner (r ∷ []) rest))
     (group-by (l ∷ (inner ++ r ∷ rest)) (inner ++ r ∷ rest) (r ∷ rest) l f (Some rest) refl left (a (r ∷ rest) (ap (ends or) right)) (behind-at Kind.Right r rest right))

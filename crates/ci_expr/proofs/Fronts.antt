@@ -107,7 +107,8 @@ pub within : (bs : List ℕ) (n b : ℕ) → get_or bs n 0 ≡ b → 0 < b → n
 within bs n b e lt = ⊎_elim (λ (h : n < length bs). h) (λ (le : length bs ≤ n). absurd (omega (arith, get_or_past bs n 0 le, e, lt))) (cases_lt n (length bs))
 
 -- what a test of the byte at a place says of the bytes from there on
-from-place : (P : List ℕ → Type 0) (test : ℕ → Bool) → P [] → ((b : ℕ) (bs : List ℕ) → test b ≡ false → P (b ∷ bs)) → (bs : List ℕ) (n : ℕ) → test (get_or bs n 0) ≡ false → P (drop n bs)
+from-place : (P : List ℕ → Type 0) (test : ℕ → Bool) → P [] → ((b : ℕ) (bs : List ℕ) → test b ≡ false → P (b ∷ bs)) → (bs : List ℕ) (n : ℕ) → test (get_or bs n 0) ≡ false
+    → P (drop n bs)
 from-place P test none some [] zero e = none
 from-place P test none some [] (suc n) e = none
 from-place P test none some (b ∷ bs) zero e = some b bs e
@@ -144,7 +145,8 @@ null-fits bs =
     spelled (c ∷ d ∷ f ∷ rest) p q r ends = (omega arith, (rw (p, q, r) refl, ends-none rest 0 ends))
     spelled _ p q r ends = absurd (omega (arith, p, q, r))
 
-two-fits : (k : Kind) (f g : ℕ) (bs : List ℕ) (s : Front) → 0 < g → ((rest : List ℕ) → Spells k (f ∷ g ∷ []) rest) → Fits (f ∷ bs) s → Fits (f ∷ bs) (cond (get_or bs 0 0 == g) (Ok (k, 2)) s)
+two-fits : (k : Kind) (f g : ℕ) (bs : List ℕ) (s : Front) → 0 < g → ((rest : List ℕ) → Spells k (f ∷ g ∷ []) rest) → Fits (f ∷ bs) s
+    → Fits (f ∷ bs) (cond (get_or bs 0 0 == g) (Ok (k, 2)) s)
 two-fits k f g bs s some spell h = cond_both (get_or bs 0 0 == g) (Ok (k, 2)) s (Fits (f ∷ bs)) (λ e. by-next bs (eqb-true _ g e)) (λ _. h)
   where
     by-next : (cs : List ℕ) → get_or cs 0 0 ≡ g → IsFront (f ∷ cs) (k, 2)

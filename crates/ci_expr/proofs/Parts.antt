@@ -147,7 +147,8 @@ IsBodyIn s p = s ≡ p.0 ++ 47 ∷ flag_of p.1
 body_by-is : (s : List ℕ) (p : Body) (m : Option (List ℕ)) → before_byte 105 s ≡ m → body_by s m ≡ Some p → IsBodyIn s p
 body_by-is s p None e h = let w = mapped (λ (b : List ℕ). (b, false)) (before_byte 47 s) p h in subst (IsBodyIn s) w.2 (before_byte-is 47 s w.0 (omega arith) w.1)
 body_by-is s p (Some cut) e h = let w = mapped (λ (b : List ℕ). (b, true)) (before_byte 47 cut) p h in
-    subst (IsBodyIn s) w.2 (before_byte-is 105 s cut (omega arith) e ∙ ap (λ xs. xs ++ 105 ∷ []) (before_byte-is 47 cut w.0 (omega arith) w.1) ∙ append_assoc w.0 (47 ∷ []) (105 ∷ []))
+    subst (IsBodyIn s) w.2
+    (before_byte-is 105 s cut (omega arith) e ∙ ap (λ xs. xs ++ 105 ∷ []) (before_byte-is 47 cut w.0 (omega arith) w.1) ∙ append_assoc w.0 (47 ∷ []) (105 ∷ []))
 
 pub pattern_of-is : (t : Token) (p : Body) → t.kind ≡ Pattern → pattern_of t.slice ≡ Some p → IsPatternOf (source_of (chars p.0)) p.1 t
 pattern_of-is t p is h = option_and_then_some body_of (behind_byte 47 t.slice) p h

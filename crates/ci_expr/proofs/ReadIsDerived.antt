@@ -43,7 +43,8 @@ chain-fits j next ts ih (Err x) e = e
 chain-fits j next ts ih (Ok y) a = joined-fits j next ts y.1 y.0 ih a (behind (sign j) y.1) (behind-is (sign j) y.1)
 
 -- ---- a test
-compared-fits : (v c : Token) (ts : List Token) (negated : Bool) (name : List ℕ) → IsNamed name v → c.kind ≡ comparing negated → Fits test (v ∷ c ∷ ts) (compared_from negated name ts)
+compared-fits : (v c : Token) (ts : List Token) (negated : Bool) (name : List ℕ) → IsNamed name v → c.kind ≡ comparing negated
+    → Fits test (v ∷ c ∷ ts) (compared_from negated name ts)
 compared-fits v c [] negated name named sign = refl
 compared-fits v c (w ∷ ts) negated name named sign = by-operand (operand_by w.slice w.kind) refl
   where
@@ -93,7 +94,8 @@ group-fits : (t : Token) (ts : List Token) → t.kind ≡ Kind.Left → (r : Rea
 group-fits t ts is (Err x) e = e
 group-fits t ts is (Ok y) a = closed-fits t ts y.1 y.0 is a (behind Kind.Right y.1) (behind-is Kind.Right y.1)
 
-test-fits : (next : List Token → Read) (t : Token) (ts : List Token) → ((us : List Token) → Fits or us (next us)) → (k : Kind) → t.kind ≡ k → Fits test (t ∷ ts) (test_by next t.slice ts k)
+test-fits : (next : List Token → Read) (t : Token) (ts : List Token) → ((us : List Token) → Fits or us (next us)) → (k : Kind) → t.kind ≡ k
+    → Fits test (t ∷ ts) (test_by next t.slice ts k)
 test-fits next t ts ih Kind.Left is = group-fits t ts is (next ts) (ih ts)
 test-fits next t ts ih Kind.Name is = variable-fits t ts is (behind_byte 36 t.slice) refl
 test-fits next t ts ih _ is = refl

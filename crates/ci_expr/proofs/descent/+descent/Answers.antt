@@ -11,15 +11,16 @@ chain_from-returns-in_err-first-clause-exact t c =
 
 pub chain_from-returns-in-None-clause-exact : goal.chain_from-returns-in-None-clause-exact
 chain_from-returns-in-None-clause-exact t c =
-    part-alone c.args.join (map token_view c.args.tokens.now) (map token_view c.in_ok-first.rest.now) (tree_view c.in_ok-first.first) c.in_ok-first.ensures.exact (rw c.sign_of.ensures at c.in-None.ensures.value)
+    part-alone c.args.join (map token_view c.args.tokens.now) (map token_view c.in_ok-first.rest.now) (tree_view c.in_ok-first.first)
+    c.in_ok-first.ensures.exact (rw c.sign_of.ensures at c.in-None.ensures.value)
 
 pub chain_from-returns-in_err-others-in-Some-clause-exact : goal.chain_from-returns-in_err-others-in-Some-clause-exact
 chain_from-returns-in_err-others-in-Some-clause-exact t c =
     let p = err_from_is_err_and c.from_residual-in_err-others-in-Some.result c.from_residual-in_err-others-in-Some.ensures.1 in
     rw (p.1, p.2)
     (joined-fails c.args.join (map token_view c.args.tokens.now) (map token_view c.in_ok-first.rest.now) (map token_view c.in-Some.more.now) (tree_view c.in_ok-first.first) _
-    c.in_ok-first.ensures.exact (rw c.sign_of.ensures at c.in-Some.ensures.value) (shorter c.in-Some.more.now c.args.tokens.now (omega (arith, c.in-Some.ensures.size, c.in_ok-first.ensures.size)))
-    c.in_err-others-in-Some.ensures.exact)
+    c.in_ok-first.ensures.exact (rw c.sign_of.ensures at c.in-Some.ensures.value)
+    (shorter c.in-Some.more.now c.args.tokens.now (omega (arith, c.in-Some.ensures.size, c.in_ok-first.ensures.size))) c.in_err-others-in-Some.ensures.exact)
 
 pub chain_from-returns-in_ok-others-in-Some-2-clause-exact : goal.chain_from-returns-in_ok-others-in-Some-2-clause-exact
 chain_from-returns-in_ok-others-in-Some-2-clause-exact t c = λ n le.

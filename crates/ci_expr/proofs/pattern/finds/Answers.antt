@@ -11,7 +11,8 @@ returns-in_default-clause-found c = λ re h.
 
 pub returns-then-is_cut-clause-found : goal.returns-then-is_cut-clause-found
 returns-then-is_cut-clause-found c = λ re h.
-    let here = found-here c.args.nfa.now re h c.as_bytes-bytes.result.now c.loop-from.at c.in-Some.from c.in-Some.field-0-1 c.in-Some.ensures.span (sym c.is_cut.ensures ∙ c.if-is_cut.true) in
+    let here = found-here c.args.nfa.now re h c.as_bytes-bytes.result.now c.loop-from.at c.in-Some.from c.in-Some.field-0-1 c.in-Some.ensures.span
+    (sym c.is_cut.ensures ∙ c.if-is_cut.true) in
     sym (ap (λ bs. is_some (find_str re bs 0)) (sym c.as_bytes-bytes.ensures.value) ∙ ap is_some (c.loop-from.invariant.2 re h) ∙ here)
 
 pub loop-from-smaller : goal.loop-from-smaller
@@ -26,5 +27,6 @@ loop-from-preserved c =
       omega (arith, below),
       ap (λ (s : _). s.states) c.find.ensures.room ∙ c.loop-from.invariant.1,
       λ re h. c.loop-from.invariant.2 re h
-          ∙ found-inside c.args.nfa.now re h c.as_bytes-bytes.result.now c.loop-from.at c.in-Some.from c.in-Some.field-0-1 c.in-Some.ensures.span (sym c.is_cut.ensures ∙ c.if-is_cut.false),
+          ∙ found-inside c.args.nfa.now re h c.as_bytes-bytes.result.now c.loop-from.at c.in-Some.from c.in-Some.field-0-1 c.in-Some.ensures.span
+          (sym c.is_cut.ensures ∙ c.if-is_cut.false),
     )

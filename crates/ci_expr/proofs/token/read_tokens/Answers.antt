@@ -19,9 +19,10 @@ all-preserved-then-is_blank c = record {
 pub all-preserved : goal.all-preserved
 all-preserved c = record {
   bound = c.in-Ok.ensures.size.1;
-  steps = subst (λ xs. Steps c.args.text.now c.in-Ok.token.end xs) (sym (ap (map token_view) c.in_ok-push-in-Ok.ensures.items ∙ map_push token_view c.all.found.items c.in-Ok.token))
-      (steps-token c.args.text.now c.all.at (map token_view c.all.found.items) (token_view c.in-Ok.token) c.all-test.true (rw c.as_bytes.ensures.value at (sym c.is_blank.ensures ∙ c.if-is_blank.false))
-      c.in-Ok.ensures.exact c.in-Ok.ensures.size.0 c.in-Ok.ensures.size.1 c.all.invariant.steps);
+  steps = subst (λ xs. Steps c.args.text.now c.in-Ok.token.end xs)
+      (sym (ap (map token_view) c.in_ok-push-in-Ok.ensures.items ∙ map_push token_view c.all.found.items c.in-Ok.token))
+      (steps-token c.args.text.now c.all.at (map token_view c.all.found.items) (token_view c.in-Ok.token) c.all-test.true
+      (rw c.as_bytes.ensures.value at (sym c.is_blank.ensures ∙ c.if-is_blank.false)) c.in-Ok.ensures.exact c.in-Ok.ensures.size.0 c.in-Ok.ensures.size.1 c.all.invariant.steps);
 }
 
 pub returns-in-Err : goal.returns-in-Err

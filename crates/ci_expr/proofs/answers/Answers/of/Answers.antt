@@ -15,7 +15,8 @@ loop-look-preserved c =
       | then-is_none+in_ok-put_all w ↦
           let now : answered c.if-is_none.answers ≡ before ++ made = ap answered w.answers-is ∙ w.in_ok-put_all.ensures.answered in
           let one : is_among same_look look made ≡ true =
-          among-filtered same_look look_view is_made c.args.looks.now c.loop-look.look-index c.look-item.result c.loop-look-test.true c.look-item.is (pattern-itself look.pattern) (look-itself look) in
+          among-filtered same_look look_view is_made c.args.looks.now c.loop-look.look-index c.look-item.result c.loop-look-test.true c.look-item.is
+          (pattern-itself look.pattern) (look-itself look) in
           next (subst (λ zs. is_among same_look look zs ≡ true) (sym now) (one-of-rest same_look look before made one))
           (subst (λ zs. AreAmong same_look (looks_view (take c.loop-look.look-index c.args.looks.now)) zs) (sym now)
           (among-more same_look (looks_view (take c.loop-look.look-index c.args.looks.now)) before made c.loop-look.invariant))

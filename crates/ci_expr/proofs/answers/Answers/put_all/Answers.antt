@@ -17,8 +17,8 @@ loop-look-preserved c =
     elim c.if-same_pattern.branch [
       | then-same_pattern+in_ok-push w ↦ (
         ap (λ s. s.states) w.search-is ∙ w.is_found_by-found.ensures.states,
-        ap (λ ls. ls ++ rest) (ap answered w.self-is ∙ ap (map (λ y. look_view y.look)) w.in_ok-push.ensures.items ∙ map_push (λ y. look_view y.look) c.loop-look.self.answers.items _)
-            ∙ append_assoc before (look ∷ []) rest ∙ on true (sym w.if-same_pattern.ensures),
+        ap (λ ls. ls ++ rest) (ap answered w.self-is ∙ ap (map (λ y. look_view y.look)) w.in_ok-push.ensures.items
+            ∙ map_push (λ y. look_view y.look) c.loop-look.self.answers.items _) ∙ append_assoc before (look ∷ []) rest ∙ on true (sym w.if-same_pattern.ensures),
       )
       | else-same_pattern w ↦ (ap (λ s. s.states) w.search-is ∙ c.loop-look.invariant.0, ap (λ a. answered a ++ rest) w.self-is ∙ on false (sym w.if-same_pattern.ensures))
     ]
