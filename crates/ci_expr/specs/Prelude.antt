@@ -22,11 +22,10 @@ pub use Rattle.ci_expr.specs.Token.{AreTokens, AreWord, BeginsNone, EndsWord, Is
 pub use Rattle.ci_expr.specs.Token.{pattern, plain, quote, token, token_at, unclosed, wrong}
 pub use Rattle.ci_expr.specs.Truth.{Values, truth, value_of}
 pub use Rattle.ci_expr.specs.View.{Fails, Gives, RefusesPattern, token_view, tokens_view, tree_view}
-pub use Rattle.ci_expr.specs.declared.answer.Answer.{Answer}
 pub use Rattle.ci_expr.specs.declared.fault.ExprCode.{ExprCode}
 pub use Rattle.ci_expr.specs.declared.fault.ExprCode.TheVariants.{X1, X2, X3, X4, X5, X6, X7, X8}
 pub use Rattle.ci_expr.specs.declared.fault.ExprFault.{ExprFault}
-pub use Rattle.ci_expr.specs.declared.formula.Formula.TheVariants.{Found, Group', Joined', Present}
+pub use Rattle.ci_expr.specs.declared.formula.Formula.TheVariants.{Found, Group', Joined'}
 pub use Rattle.ci_expr.specs.declared.pattern.Refusal.{Refusal}
 pub use Rattle.ci_expr.specs.declared.token.Kind.{Kind}
 pub use Rattle.ci_expr.specs.declared.token.Kind.TheVariants.{And, Left, Match, Mismatch, Name, Null, Or, Right, Text, Unequal}

@@ -1,5 +1,5 @@
 use Rattle.std.proofs.Common.{rules, ◌≡◌, ◌++◌, Bool, true, false, not, refl, sym}
-use Rattle.ci_expr.specs.Prelude.{AreAnswered, Values, answered, same_look, values_of, formula_view, looks_in, joined, truth, Join}
+use Rattle.ci_expr.specs.Prelude.{AreAnswered, Values, answered, same_look, formula_view, looks_in, joined, truth, Join}
 use Rattle.ci_expr.specs.declared.answers.Answers.{Answers}
 use Rattle.ci_expr.specs.declared.formula.Formula as formulas
 use Rattle.ci_expr.proofs.Answering.{among-left, among-right}
@@ -26,21 +26,19 @@ module _ (answers : Answers) (vs : Values) (a b : formulas.Formula) (j : Join) (
 
 pub returns-then-truth : goal.returns-then-truth
 returns-then-truth t c = let k = c.in-Joined-Or-default-default in rw k.is
-    (λ all. by-first c.args.answers.now (values_of c.args.env.now) k.a.value k.b.value k.field-0 c.truth.result
-    (rw c.deref.ensures at c.truth.ensures) all Join.Or (search rules) c.if-truth.true)
+    (λ all. by-first c.args.answers.now _ k.a.value k.b.value k.field-0 _ (rw c.deref.ensures at c.truth.ensures) all Join.Or (search rules) c.if-truth.true)
 
 pub returns-else-truth : goal.returns-else-truth
 returns-else-truth t c = let k = c.in-Joined-Or-default-default in rw k.is
-    (λ all. by-second c.args.answers.now (values_of c.args.env.now) k.a.value k.b.value k.field-0 c.truth.result
-    (rw c.deref.ensures at c.truth.ensures) all Join.Or c.truth-else-truth.result (search rules) c.if-truth.false (rw c.deref-else-truth.ensures at c.truth-else-truth.ensures))
+    (λ all. by-second c.args.answers.now _ k.a.value k.b.value k.field-0 _ (rw c.deref.ensures at c.truth.ensures) all Join.Or _ (search rules) c.if-truth.false
+    (rw c.deref-else-truth.ensures at c.truth-else-truth.ensures))
 
 pub returns-then-truth-2 : goal.returns-then-truth-2
-returns-then-truth-2 t c = let k = c.in-Joined-And-default-default in let first = c.truth-in-Joined-And-default-default in rw k.is
-    (λ all. by-second c.args.answers.now (values_of c.args.env.now) k.a.value k.b.value k.field-0 first.result
-    (rw c.deref-in-Joined-And-default-default.ensures at first.ensures) all Join.And c.truth-then-truth-2.result (search rules) c.if-truth-2.true
-    (rw c.deref-then-truth-2.ensures at c.truth-then-truth-2.ensures))
+returns-then-truth-2 t c = let k = c.in-Joined-And-default-default in rw k.is
+    (λ all. by-second c.args.answers.now _ k.a.value k.b.value k.field-0 _ (rw c.deref-in-Joined-And-default-default.ensures at c.truth-in-Joined-And-default-default.ensures) all
+    Join.And _ (search rules) c.if-truth-2.true (rw c.deref-then-truth-2.ensures at c.truth-then-truth-2.ensures))
 
 pub returns-else-truth-2 : goal.returns-else-truth-2
-returns-else-truth-2 t c = let k = c.in-Joined-And-default-default in let first = c.truth-in-Joined-And-default-default in rw k.is
-    (λ all. by-first c.args.answers.now (values_of c.args.env.now) k.a.value k.b.value k.field-0 first.result
-    (rw c.deref-in-Joined-And-default-default.ensures at first.ensures) all Join.And (search rules) c.if-truth-2.false)
+returns-else-truth-2 t c = let k = c.in-Joined-And-default-default in rw k.is
+    (λ all. by-first c.args.answers.now _ k.a.value k.b.value k.field-0 _ (rw c.deref-in-Joined-And-default-default.ensures at c.truth-in-Joined-And-default-default.ensures) all
+    Join.And (search rules) c.if-truth-2.false)
