@@ -29,36 +29,16 @@ use Rattle.ci_yaml.proofs.SpansLines.{take-length}
 
 -- ---- one list
 
-pub spans-same : (n m : ℕ) (ls ms : List Line) (a b : List Span) → HaveSpans n ls a → HaveSpans m ms b → n ≡ m → ls ≡ ms → a ≡ b
-spans-same n m ls ms a b (none n') (none m') at is = refl
-spans-same n m ls ms a b (none n') (line m' l2 rest2 more2 all2 header2 have2 all-is2) at is = absurd cc
-spans-same n m ls ms a b (none n') (block m' l2 lines2 rest2 below2 how2 more2 all2 header2 parts2 are2 ends2 have2 all-is2) at is = absurd cc
-spans-same n m ls ms a b (line n' l rest more all header have all-is) (none m') at is = absurd cc
-spans-same n m ls ms a b (block n' l lines rest below how more all header parts are ends have all-is) (none m') at is = absurd cc
-spans-same n m ls ms a b (line n' l rest more all header have all-is) (line m' l2 rest2 more2 all2 header2 have2 all-is2) at is =
-    let heads : l ≡ l2 = cc in
-    let tails : rest ≡ rest2 = cc in
-    all-is ∙ ap (λ (k : ℕ). line_spans (suc k) l ++ more) at ∙ ap (λ (x : Line). line_spans (suc m) x ++ more) heads
-    ∙ ap (λ (x : List Span). line_spans (suc m) l2 ++ x) (spans-same (suc n) (suc m) rest rest2 more more2 have have2 (ap suc at) tails) ∙ sym all-is2
-spans-same n m ls ms a b (line n' l rest more all header have all-is) (block m' l2 lines2 rest2 below2 how2 more2 all2 header2 parts2 are2 ends2 have2 all-is2) at is =
-    let heads : l ≡ l2 = cc in
-    let no : Some how2 ≡ None = sym header2 ∙ ap (λ (x : Line). (parse_line x).header) (sym heads) ∙ header in
-    absurd cc
-spans-same n m ls ms a b (block n' l lines rest below how more all header parts are ends have all-is) (line m' l2 rest2 more2 all2 header2 have2 all-is2) at is =
-    let heads : l ≡ l2 = cc in
-    let no : Some how ≡ None = sym header ∙ ap (λ (x : Line). (parse_line x).header) heads ∙ header2 in
-    absurd cc
-spans-same n m ls ms a b (block n' l lines rest below how more all header parts are ends have all-is) (block m' l2 lines2 rest2 below2 how2 more2 all2 header2 parts2 are2 ends2 have2 all-is2) at is =
-    let heads : l ≡ l2 = cc in
-    let tails : below ≡ below2 = cc in
-    let col : ℕ = last_column (parse_line l).entries in
-    let cols : last_column (parse_line l2).entries ≡ col = ap (λ (x : Line). last_column (parse_line x).entries) (sym heads) in
-    let f = front-same col [] lines lines2 rest rest2 are (subst (λ c. AreBlock c [] lines2) cols are2) ends (subst (λ c. EndsBlock c rest2) cols ends2) (sym parts ∙ tails ∙ parts2) in
-    let there : suc n + length lines ≡ suc m + length lines2 = ap (λ (k : ℕ). suc k + length lines) at ∙ ap (λ (x : List Line). suc m + length x) f.0 in
-    all-is ∙ ap (λ (k : ℕ). with_last (block_span (suc k) lines) (line_spans (suc k) l) ++ more) at
-    ∙ ap (λ (x : List Line). with_last (block_span (suc m) x) (line_spans (suc m) l) ++ more) f.0
-    ∙ ap (λ (x : Line). with_last (block_span (suc m) lines2) (line_spans (suc m) x) ++ more) heads
-    ∙ ap (λ (x : List Span). with_last (block_span (suc m) lines2) (line_spans (suc m) l2) ++ x) (spans-same (suc n + length lines) (suc m + length lines2) rest rest2 more more2 have have2 there f.1) ∙ sym all-is2
+pub spans-same : (n : ℕ) (ls : List Line) (a b : List Span) → HaveSpans n ls a → HaveSpans n ls b → a ≡ b
+spans-same n ls a b (none n') (none m') = refl
+spans-same n ls a b (line n' l rest more all header have is) (line m' l2 rest2 more2 all2 header2 have2 is2) = rw (is, spans-same (suc n) rest more more2 have have2) (sym is2)
+spans-same n ls a b (line n' l rest more all header have is) (block m' l2 lines2 rest2 below2 how2 more2 all2 header2 parts2 are2 ends2 have2 is2) =
+    let no : Some how2 ≡ None = sym header2 ∙ header in absurd cc
+spans-same n ls a b (block n' l lines rest below how more all header parts are ends have is) (line m' l2 rest2 more2 all2 header2 have2 is2) =
+    let no : Some how ≡ None = sym header ∙ header2 in absurd cc
+spans-same n ls a b (block n' l lines rest below how more all header parts are ends have is) (block m' l2 lines2 rest2 below2 how2 more2 all2 header2 parts2 are2 ends2 have2 is2) =
+    let f = front-same (last_column (parse_line l).entries) [] lines lines2 rest rest2 are are2 ends ends2 (sym parts ∙ parts2) in
+    rw (is, spans-same (suc n + length lines) rest more more2 have (rw (f.0, f.1) have2), f.0) (sym is2)
 
 -- ---- a line with a header has a span
 

@@ -1,6 +1,6 @@
 -- A text has one tree, or one fault.
 use Rattle.std.proofs.Common.{◌≡◌, ℕ, suc, ◌<◌, ◌≤◌, ◌⊎◌, inl, inr, List, [], ◌∷◌, ◌++◌, length, take, Option, Some, None, Result, Ok, Err, refl, sym, ◌∙◌, ap, subst, arith}
-use Rattle.std.proofs.Common.{append_assoc, ◌==◌, if◌then◌else◌, IfOk, IfErr}
+use Rattle.std.proofs.Common.{append_assoc, ◌-◌, get_or, IfOk, IfErr}
 use Rattle.std.specs.Str.Lines.{lines}
 use Rattle.std.proofs.lemmas.Bool.{cases_lt}
 use Rattle.ci_yaml.specs.Prelude.{MAX_FILE_BYTES, Code, Y1, Y2, Y3, Y4, Y5, Y6, Y7, Y8, Y9, Y10, Y11, Y12, Value, null, boolean, number, text, node, Entry, IsNode, IsDocument}
@@ -14,38 +14,16 @@ use Rattle.ci_yaml.proofs.ReadTexts.{fault-at, nothing-by}
 
 -- ---- codes differ in their numbers
 
-abbrev from_number : ℕ → Option Code
-from_number n =
-    if n == 1 then Some Y1 else (
-    if n == 2 then Some Y2 else (
-    if n == 3 then Some Y3 else (
-    if n == 4 then Some Y4 else (
-    if n == 5 then Some Y5 else (
-    if n == 6 then Some Y6 else (
-    if n == 7 then Some Y7 else (
-    if n == 8 then Some Y8 else (
-    if n == 9 then Some Y9 else (
-    if n == 10 then Some Y10 else (
-    if n == 11 then Some Y11 else (
-    if n == 12 then Some Y12 else (
-    None))))))))))))
+-- the code of a number from 1 on
+abbrev code_of : ℕ → Code
+code_of n = get_or (Y1 ∷ Y2 ∷ Y3 ∷ Y4 ∷ Y5 ∷ Y6 ∷ Y7 ∷ Y8 ∷ Y9 ∷ Y10 ∷ Y11 ∷ Y12 ∷ []) (n - 1) Y1
 
-number-back : (c : Code) → from_number (number_of c) ≡ Some c
+number-back : (c : Code) → code_of (number_of c) ≡ c
 number-back Y1 = refl
-number-back Y2 = refl
-number-back Y3 = refl
-number-back Y4 = refl
-number-back Y5 = refl
-number-back Y6 = refl
-number-back Y7 = refl
-number-back Y8 = refl
-number-back Y9 = refl
-number-back Y10 = refl
-number-back Y11 = refl
-number-back Y12 = refl
+number-back c = refl
 
 same-number : (c d : Code) → number_of c ≡ number_of d → c ≡ d
-same-number c d e = some_is c d (sym (number-back c) ∙ ap from_number e ∙ number-back d)
+same-number c d e = sym (number-back c) ∙ ap code_of e ∙ number-back d
 
 -- ---- one fault
 
@@ -104,11 +82,8 @@ one_fault bs i j c d (at_line size before l after parts at good bad least) (at_l
 -- ---- not both
 
 empty-node : (v : Value) (l : ℕ) → IsNode v 1 l [] → ⊥
-empty-node null l h = h
-empty-node (boolean b) l h = h
-empty-node (number n) l h = h
-empty-node (text bs) l h = h
 empty-node (node kind ms) l h = omega (arith, h.1)
+empty-node v l h = h
 
 nothing-has : (v : Value) (es : List Entry) → es ≡ [] → IsDocument v es → ⊥
 nothing-has v es nil (of_node l le h) = empty-node v l (subst (λ (x : List Entry). IsNode v 1 l x) nil h)
@@ -117,7 +92,7 @@ nothing-has v es nil (of_line e is head column given) = let bad : e ∷ [] ≡ [
 pub not_both : (bs : List ℕ) (v : Value) (i : ℕ) (c : Code) → HasTree bs v → IsFault bs i c → ⊥
 not_both bs v i c h (too_long long at is) = omega (arith, h.size)
 not_both bs v i c h (at_line size before l after parts at good bad least) = not-all (lines bs) before l after parts bad (has_tree h.entries h.end v h.parses h.document)
-not_both bs v i c h (no_content size end parses at is) = nothing-has v h.entries (parses-same (lines bs) (lines bs) h.entries [] h.end end h.parses parses refl).0 h.document
+not_both bs v i c h (no_content size end parses at is) = nothing-has v h.entries (parses-same (lines bs) h.entries [] h.end end h.parses parses).0 h.document
 
 -- ---- one of both
 

@@ -2,8 +2,8 @@
 pub use Rattle.ci_yaml.specs.Block.{AreBlock, EndsBlock, block_codes, block_indent, block_lines, first_indent, indent_codes, is_in_block, is_low, is_spaces, kept_len, line_text}
 pub use Rattle.ci_yaml.specs.Block.{literal, more_indent, without_end, without_last}
 pub use Rattle.ci_yaml.specs.Blocks.{StopsBlock, cut_lines, cut_strip, cut_text, texts_of}
-pub use Rattle.ci_yaml.specs.Codes.{all_keep, awaited, column_open, deep_by, deeper_by, fits_by, is_empty, is_named, is_none, keeps_by, level_open, member_fits, names_by}
-pub use Rattle.ci_yaml.specs.Codes.{opens_above, place_code, repeats_by, stands_at, stands_by, too_deep}
+pub use Rattle.ci_yaml.specs.Codes.{all_keep, at_level, awaited, column_open, fits, is_empty, is_key, is_named, is_none, keeps, level_open, open_with, opens_above, repeats_by}
+pub use Rattle.ci_yaml.specs.Codes.{stands_at, too_deep}
 pub use Rattle.ci_yaml.specs.Document.{Ending, HasTree, Holds, IsFault, IsGood, IsLeast, IsOutside, Parses, at_line, codes_at, ending_of, entries_with, filled, has_tree}
 pub use Rattle.ci_yaml.specs.Document.{last_column, no_content, none, of_block, of_place, or_else, outside, place_codes, skipped, too_long, within}
 pub use Rattle.ci_yaml.specs.FaultText.{fault_text}

@@ -5,11 +5,8 @@ use Rattle.ci_yaml_lines.specs.Prelude.{Value, null, boolean, number, text, node
 abbrev mutual
   -- in each map of it the keys differ
   pub KeysDiffer : Value → Type 0
-  KeysDiffer null = ⊤
-  KeysDiffer (boolean b) = ⊤
-  KeysDiffer (number n) = ⊤
-  KeysDiffer (text bs) = ⊤
   KeysDiffer (node kind ms) = NamesFit kind ms × AllKeysDiffer ms
+  KeysDiffer v = ⊤
 
   pub AllKeysDiffer : Members → Type 0
   AllKeysDiffer no_members = ⊤
@@ -18,11 +15,8 @@ abbrev mutual
 abbrev mutual
   -- how many maps and lists lie within one another in it
   pub depth : Value → ℕ
-  depth null = 0
-  depth (boolean b) = 0
-  depth (number n) = 0
-  depth (text bs) = 0
   depth (node kind ms) = suc (members_depth ms)
+  depth v = 0
 
   pub members_depth : Members → ℕ
   members_depth no_members = 0
