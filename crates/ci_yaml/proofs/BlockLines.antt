@@ -1,6 +1,6 @@
 -- The lines of a block, one after the other.
 use Rattle.std.proofs.Common.{◌≡◌, ℕ, zero, suc, ◌+◌, ◌-◌, ◌<◌, ◌≤◌, Bool, true, false, cond, List, [], ◌∷◌, ◌++◌, length, take, drop, get_or, Option, Some, None, refl, sym, ◌∙◌}
-use Rattle.std.proofs.Common.{ap, subst, append_assoc, arith, ◌==◌, ◌&&◌, IfOk, Result, Ok, Err}
+use Rattle.std.proofs.Common.{ap, subst, append_assoc, arith, ◌==◌, ◌&&◌}
 use denote.Bor.{Bor}
 use Rattle.std.proofs.lemmas.List.{take_more, append-nil, length-drop, nil_from_length}
 use Rattle.ci_yaml_lines.proofs.Lists.{last-parted, drop-at, push-some}
@@ -123,7 +123,3 @@ pub block-more : (c : ℕ) (xs : List (Bor (List ℕ))) (i : ℕ) (d : Bor (List
 block-more c xs i d l o lt is o-is are inside_it clean =
     subst (AreBlock c []) (sym (texts-more xs i d l lt is))
     (are-push c [] (texts_of (take i xs)) l are inside_it (no_least (block_codes (texts_of (take i xs)) l) (ap (λ x. least (indent_codes x l)) (sym o-is) ∙ clean)))
-
-pub ok-map : {X E : Type 0} (r : Result X E) (P Q : Type 0) → (P → Q) → IfOk r (λ x. P) → IfOk r (λ x. Q)
-ok-map (Ok x) P Q f h = f h
-ok-map (Err e) P Q f h = tt

@@ -1,22 +1,20 @@
 -- The code that reading stops with at a line is the least of those that hold of it.
-use Rattle.std.proofs.Common.{◌≡◌, ℕ, suc, ◌≤◌, ◌⊎◌, inl, inr, Bool, true, false, cond, List, [], ◌∷◌, ◌++◌, Option, Some, None, Result, Ok, Err, refl, sym, ◌∙◌, ap, subst, arith}
+use Rattle.std.proofs.Common.{◌≡◌, ℕ, ◌≤◌, ◌⊎◌, inl, inr, Bool, true, false, cond, List, [], ◌∷◌, ◌++◌, Option, Some, None, Result, Ok, Err, refl, sym, ◌∙◌, ap, subst, arith}
 use Rattle.std.proofs.Common.{nat_le, Contains}
 use Rattle.std.specs.List.{All}
 use Rattle.std.proofs.lemmas.Bool.{leb-true, leb-false}
 use Rattle.std.proofs.lemmas.List.Elements.{All-nil, All-cons, All-contains, Contains-append_left, Contains-append_right, Contains-append_cases}
 use Rattle.ci_yaml.specs.Prelude.{Code, bare, Entry, Written, ParsedLine, parse_line, Line, State, run, lesser, least, least_of, is_in_block, block_codes, literal, AreBlock}
-use Rattle.ci_yaml.specs.Prelude.{EndsBlock, Ending, outside, within, ending_of, IsOutside, filled, last_column, Parses, none, place_codes, Holds, of_block, of_place, IsLeast}
+use Rattle.ci_yaml.specs.Prelude.{EndsBlock, Ending, outside, within, IsOutside, last_column, Parses, none, place_codes, Holds, of_block, of_place, IsLeast}
 use Rattle.ci_yaml.specs.Prelude.{Reader, with_text, stop_or, content_by, content, line_by, line_next}
-use Rattle.ci_yaml_lines.specs.Prelude.{Chomp}
 use Rattle.ci_yaml_lines.specs.Least.{number_of}
 use Rattle.ci_yaml.specs.Document.{line, block, of_line}
-use Rattle.ci_yaml.proofs.Sound.{StateStands}
+use Rattle.ci_yaml.proofs.Sound.{StateStands, some_is}
 use Rattle.ci_yaml_lines.proofs.Leasts.{least_append}
 use Rattle.ci_yaml.proofs.LinesSound.{LinesStand}
 use Rattle.ci_yaml.proofs.Headers.{entries-same}
 use Rattle.ci_yaml.proofs.PlaceCodes.{fault_of, HasGiven, run-code}
 use Rattle.ci_yaml_lines.proofs.Forms.{OfForms, OfEntries, written_at-each, entry-each}
-use Rattle.ci_yaml.proofs.Trees.{some_is}
 
 -- ---- what lines say is one thing
 

@@ -18,7 +18,6 @@ pub mod Shapes
 pub mod Verdicts
 pub mod SpansLines
 pub mod SpansWritten
-pub mod SpansParts
 pub mod Frames
 pub mod SpansFrames
 pub mod BlockLines

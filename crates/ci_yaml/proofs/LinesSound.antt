@@ -4,11 +4,11 @@ use Rattle.std.specs.Prelude.{⊤}
 use Rattle.std.proofs.lemmas.List.{append-nil}
 use Rattle.ci_yaml.specs.Prelude.{Code, Value, text, Entry, ParsedLine, parse_line, Line, ◌>>=◌, State, start, whole, inside, run, is_in_block, block_codes, literal, Ending}
 use Rattle.ci_yaml.specs.Prelude.{outside, within, IsOutside, filled, entries_with, last_column, Parses, none, least, Reader, with_text, stop_or, ending_at, content_by, content}
-use Rattle.ci_yaml.specs.Prelude.{line_by, line_next, read_lines}
+use Rattle.ci_yaml.specs.Prelude.{line_by, line_next, read_lines, beginning}
 use Rattle.ci_yaml_lines.specs.Prelude.{Chomp}
 use Rattle.ci_yaml.specs.Reading.{Frame}
 use Rattle.ci_yaml.specs.Document.{line, block}
-use Rattle.ci_yaml.proofs.Sound.{Stands, StateStands, run-stands}
+use Rattle.ci_yaml.proofs.Sound.{Stands, StateStands, run-stands, bind_ok, bind-both}
 use Rattle.ci_yaml_lines.proofs.Leasts.{no_least}
 use Rattle.ci_yaml_lines.proofs.Forms.{OfLines, line-each}
 use Rattle.ci_yaml.proofs.BlockLines.{are-push}
@@ -30,11 +30,6 @@ alone-by l (Some how) is clean =
 alone : (l : Line) → (parse_line l).codes ≡ [] → Parses (l ∷ []) (parsed_entries l) (parsed_end l)
 alone l clean = alone-by l (parse_line l).header refl clean
 
-parses-nil : (ls : List Line) (es : List Entry) (end : Ending) → Parses ls es end → ls ≡ [] → es ≡ []
-parses-nil ls es end none e = refl
-parses-nil ls es end (line m rest es' all end' clean' no_header parses all-is) e = absurd cc
-parses-nil ls es end (block m lines rest below how es' all end' last clean' header parts are ends parses all-is last-is) e = absurd cc
-
 -- one more line, outside the block that may be open
 pub parses-line : (ls : List Line) (es : List Entry) (end : Ending) (l : Line) → Parses ls es end → IsOutside end l → (parse_line l).codes ≡ []
     → Parses (ls ++ l ∷ []) (es ++ parsed_entries l) (parsed_end l)
@@ -42,12 +37,10 @@ parses-line ls es end l none out clean = alone l clean
 parses-line ls es end l (line m rest es' all end' clean' no_header parses all-is) out clean =
     line m (rest ++ l ∷ []) (es' ++ parsed_entries l) (all ++ parsed_entries l) (parsed_end l) clean' no_header
     (parses-line rest es' end' l parses out clean) (rw all-is (append_assoc (parse_line m).entries es' (parsed_entries l)))
-parses-line ls es end l (block m lines [] below how es' all end' last clean' header parts are ends parses all-is last-is) out clean =
+parses-line ls es end l (block m lines [] below how es' all end' last clean' header parts are ends none all-is last-is) out clean =
     block m lines (l ∷ []) (below ++ l ∷ []) how (parsed_entries l) (all ++ parsed_entries l) (parsed_end l) (parsed_end l) clean' header
-    (ap (λ (x : List Line). x ++ l ∷ []) (parts ∙ append-nil lines)) are
-    (subst (λ (e : Ending). IsOutside e l) last-is out) (alone l clean)
-    (ap (λ (x : List Entry). x ++ parsed_entries l) (all-is ∙ ap (λ (x : List Entry). filled (parse_line m).entries (literal how lines) ++ x) (parses-nil [] es' end' parses refl) ∙ append-nil (filled (parse_line m).entries (literal how lines))))
-    refl
+    (rw (parts, append-nil lines) refl) are (subst (λ (e : Ending). IsOutside e l) last-is out) (alone l clean)
+    (rw (all-is, append-nil (filled (parse_line m).entries (literal how lines))) refl) refl
 parses-line ls es end l (block m lines (r ∷ rest) below how es' all end' last clean' header parts are ends parses all-is last-is) out clean =
     block m lines (r ∷ (rest ++ l ∷ [])) (below ++ l ∷ []) how (es' ++ parsed_entries l) (all ++ parsed_entries l) (parsed_end l) (parsed_end l) clean' header
     (ap (λ (x : List Line). x ++ l ∷ []) parts ∙ append_assoc lines (r ∷ rest) (l ∷ [])) are ends
@@ -110,27 +103,20 @@ parses-in ls es end how c so_far l (line m rest es' all end' clean' no_header pa
       line m (rest ++ l ∷ []) (filled es' (literal how (so_far ++ l ∷ []))) (filled all (literal how (so_far ++ l ∷ []))) (within how c (so_far ++ l ∷ [])) clean' no_header more.1
           (ap (λ (x : List Entry). filled x (literal how (so_far ++ l ∷ []))) all-is ∙ filled-append (parse_line m).entries es' (literal how (so_far ++ l ∷ [])) more.0),
     )
-parses-in ls es end how c so_far l (block m lines [] below how' es' all end' last clean' header parts are ends parses all-is last-is) is inside_it clean =
+parses-in ls es end how c so_far l (block m lines [] below how' es' all end' last clean' header parts are ends none all-is last-is) is inside_it clean =
     let heads : List Entry = (parse_line m).entries in
-    let col : ℕ = last_column (parse_line m).entries in
-    let same : within how' (last_column (parse_line m).entries) lines ≡ within how c so_far = sym last-is ∙ is in
-    let how-is : how' ≡ how = cc in
-    let col-is : last_column (parse_line m).entries ≡ c = cc in
-    let lines-is : lines ≡ so_far = cc in
+    let col : ℕ = last_column heads in
+    let same : within how c so_far ≡ within how' col lines = sym is ∙ last-is in
+    let how-is : how ≡ how' = cc in
+    let col-is : c ≡ col = cc in
+    let lines-is : so_far ≡ lines = cc in
     let t : List ℕ = literal how' (lines ++ l ∷ []) in
-    let alls : all ≡ filled heads (literal how' lines) = all-is ∙ ap (λ (x : List Entry). filled heads (literal how' lines) ++ x) (parses-nil [] es' end' parses refl) ∙ append-nil (filled heads (literal how' lines)) in
-    let some : NotEmpty heads = header-fits m how' header in
-    let within' : is_in_block col l ≡ true = ap (λ n. is_in_block n l) col-is ∙ inside_it in
-    let clean2 : block_codes lines l ≡ [] = ap (λ (x : List Line). block_codes x l) lines-is ∙ clean in
-    let made : Parses (m ∷ (below ++ l ∷ [])) (filled all t) (within how' col (lines ++ l ∷ [])) =
-    block m (lines ++ l ∷ []) [] (below ++ l ∷ []) how' [] (filled all t) outside (within how' col (lines ++ l ∷ [])) clean' header
-    (ap (λ (x : List Line). x ++ l ∷ []) (parts ∙ append-nil lines) ∙ sym (append-nil (lines ++ l ∷ [])))
-    (are-push col [] lines l are within' clean2) tt none
-    (ap (λ (x : List Entry). filled x t) alls ∙ filled-twice heads (literal how' lines) t ∙ sym (append-nil (filled heads t))) refl in (
-      subst NotEmpty (sym alls) (filled-not_empty heads (literal how' lines) some),
-      subst (λ (n : ℕ). Parses (m ∷ (below ++ l ∷ [])) (filled all (literal how (so_far ++ l ∷ []))) (within how n (so_far ++ l ∷ []))) col-is
-          (subst (λ (h : Chomp). Parses (m ∷ (below ++ l ∷ [])) (filled all (literal h (so_far ++ l ∷ []))) (within h col (so_far ++ l ∷ []))) how-is
-          (subst (λ (x : List Line). Parses (m ∷ (below ++ l ∷ [])) (filled all (literal how' (x ++ l ∷ []))) (within how' col (x ++ l ∷ []))) lines-is made)),
+    let alls : all ≡ filled heads (literal how' lines) = all-is ∙ append-nil (filled heads (literal how' lines)) in (
+      rw alls (filled-not_empty heads (literal how' lines) (header-fits m how' header)),
+      rw (how-is, col-is, lines-is) (block m (lines ++ l ∷ []) [] (below ++ l ∷ []) how' [] (filled all t) outside (within how' col (lines ++ l ∷ [])) clean' header
+          (rw (parts, append-nil lines, append-nil (lines ++ l ∷ [])) refl)
+          (are-push col [] lines l are (rw col-is at inside_it) (rw lines-is at clean)) tt none
+          (rw (alls, append-nil (filled heads t)) (filled-twice heads (literal how' lines) t)) refl),
     )
 parses-in ls es end how c so_far l (block m lines (r ∷ rest) below how' es' all end' last clean' header parts are ends parses all-is last-is) is inside_it clean =
     let more = parses-in (r ∷ rest) es' end' how c so_far l parses (sym last-is ∙ is) inside_it clean in (
@@ -167,19 +153,29 @@ pub stop-ok : (o : Option Code) (r s : Reader) → stop_or o r ≡ Ok s → (o �
 stop-ok None r s e = (refl, cc)
 stop-ok (Some c) r s e = absurd cc
 
-content-stands-by : (res : Result State Code) (l : Line) (ls : List Line) (r s : Reader) → content_by res (parse_line l) ≡ Ok s → run r.state (parsed_entries l) ≡ res
-    → LinesStand r ls → IsOutside r.end l → LinesStand s (ls ++ l ∷ [])
-content-stands-by (Err c) l ls r s e ran h out = absurd cc
-content-stands-by (Ok t) l ls r s e ran h out =
-    let p = stop-ok (least (parse_line l).codes) (record { state = t; end = parsed_end l }) s e in
-    subst (λ (x : Reader). LinesStand x (ls ++ l ∷ [])) p.1 (record {
-      entries = h.entries ++ parsed_entries l;
-      parses = parses-line ls h.entries r.end l h.parses out (no_least (parse_line l).codes p.0);
-      stands = run-stands r.state h.entries (parsed_entries l) t ran h.stands;
-    })
+-- what reading a line outside blocks says of it
+pub record Said (st : State) (l : Line) (r : Reader) : Type 0 where
+  pub clean : (parse_line l).codes ≡ []
+  pub ran : run st (parsed_entries l) ≡ Ok r.state
+  pub end : r.end ≡ parsed_end l
+
+pub content-said : (st : State) (l : Line) (r : Reader) → content st (parse_line l) ≡ Ok r → Said st l r
+content-said st l r e = by (run st (parsed_entries l)) refl e
+  where
+    by : (res : Result State Code) → run st (parsed_entries l) ≡ res → content_by res (parse_line l) ≡ Ok r → Said st l r
+    by (Ok t) ran e' =
+        let p = stop-ok (least (parse_line l).codes) (record { state = t; end = parsed_end l }) r e' in
+        record { clean = no_least (parse_line l).codes p.0; ran = ran ∙ ap (λ (x : Reader). Ok x.state) p.1; end = sym (ap (λ (x : Reader). x.end) p.1) }
+    by (Err c) ran e' = absurd cc
 
 content-stands : (l : Line) (ls : List Line) (r s : Reader) → content r.state (parse_line l) ≡ Ok s → LinesStand r ls → IsOutside r.end l → LinesStand s (ls ++ l ∷ [])
-content-stands l ls r s e h out = content-stands-by (run r.state (parsed_entries l)) l ls r s e refl h out
+content-stands l ls r s e h out =
+    let c = content-said r.state l s e in
+    record {
+      entries = h.entries ++ parsed_entries l;
+      parses = rw c.end (parses-line ls h.entries r.end l h.parses out c.clean);
+      stands = run-stands r.state h.entries (parsed_entries l) s.state c.ran h.stands;
+    }
 
 in-stands : (st : State) (how : Chomp) (c : ℕ) (so_far : List Line) (l : Line) (ls : List Line) (s : Reader) (b : Bool) → is_in_block c l ≡ b
     → cond b (stop_or (least (block_codes so_far l)) (record { state = with_text (literal how (so_far ++ l ∷ [])) st; end = within how c (so_far ++ l ∷ []) })) (content st (parse_line l)) ≡ Ok s
@@ -195,14 +191,17 @@ line-stands-by : (end : Ending) (st : State) (l : Line) (ls : List Line) (s : Re
 line-stands-by outside st l ls s e h = content-stands l ls (record { state = st; end = outside }) s e h tt
 line-stands-by (within how c so_far) st l ls s e h = in-stands st how c so_far l ls s (is_in_block c l) refl e h
 
-pub read-by : (res : Result Reader Code) (ls : List Line) (s : Reader) → (res >>= λ t. read_lines t ls) ≡ Ok s → (t : Reader) × (res ≡ Ok t) × (read_lines t ls ≡ Ok s)
-read-by (Ok t) ls s e = (t, refl, e)
-read-by (Err c) ls s e = absurd cc
+pub read-append : (r : Reader) (a b : List Line) → read_lines r (a ++ b) ≡ (read_lines r a >>= λ t. read_lines t b)
+read-append r [] b = refl
+read-append r (l ∷ a) b = bind-both (line_next r l) (λ t. read_lines t a) (λ t. read_lines t (a ++ b)) (λ t. read_lines t b) (λ t. read-append t a b)
 
--- What is read of lines stands over entries that the lines say.
-pub read-stands : (r : Reader) (before ls : List Line) (s : Reader) → read_lines r ls ≡ Ok s → LinesStand r before → LinesStand s (before ++ ls)
+read-stands : (r : Reader) (before ls : List Line) (s : Reader) → read_lines r ls ≡ Ok s → LinesStand r before → LinesStand s (before ++ ls)
 read-stands r before [] s e h = let same : r ≡ s = cc in rw (append-nil before) (subst (λ (x : Reader). LinesStand x before) same h)
 read-stands r before (l ∷ ls) s e h =
-    let b = read-by (line_next r l) ls s e in
+    let b = bind_ok (line_next r l) (λ t. read_lines t ls) s e in
     subst (λ (x : List Line). LinesStand s x) (append_assoc before (l ∷ []) ls)
     (read-stands b.0 (before ++ l ∷ []) ls s b.2 (line-stands-by r.end r.state l before b.0 b.1 h))
+
+-- What is read of lines stands over entries that the lines say.
+pub lines-stand : (ls : List Line) (r : Reader) → read_lines beginning ls ≡ Ok r → LinesStand r ls
+lines-stand ls r e = read-stands beginning [] ls r e (record { entries = []; parses = none; stands = refl })

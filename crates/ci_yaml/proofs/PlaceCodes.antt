@@ -1,10 +1,10 @@
 -- A step stops with the least of the codes that hold of its entry's place, and goes on where none does.
-use Rattle.std.proofs.Common.{◌≡◌, ℕ, suc, ◌<◌, ◌≤◌, Bool, true, false, cond, List, [], ◌∷◌, ◌++◌, length, Option, Some, None, Result, Ok, Err, refl, sym, ◌∙◌, ap, subst, arith, inl, inr}
+use Rattle.std.proofs.Common.{◌≡◌, ℕ, suc, ◌<◌, ◌≤◌, Bool, true, false, cond, List, [], ◌∷◌, ◌++◌, length, Option, Some, None, Result, Ok, Err, refl, sym, ◌∙◌, ap, arith, inl, inr}
 use Rattle.std.proofs.Common.{nat_lt, nat_le, ◌==◌, ◌&&◌, ◌||◌}
 use Rattle.std.specs.Prelude.{⊤}
-use Rattle.std.proofs.lemmas.Bool.{lt-ltb, le-ltb, cases_lt, cases_order, cond-true, cond-false, eq-eqb, ne_eqb}
+use Rattle.std.proofs.lemmas.Bool.{lt-ltb, le-ltb, cases_lt, cases_order, eq-eqb, ne_eqb}
 use Rattle.ci_yaml.specs.Prelude.{Code, Y3, Y4, Y5, Y10, Kind, sequence, mapping, Value, Members, no_members, member, push, Head, dash, key, bare, Entry, head_of, level_of, ◌>>=◌, level}
-use Rattle.ci_yaml.specs.Prelude.{State, start, whole, inside, closed, settle, value_of, same_text, has_name, misplaced, is_node, with_given, begun, is_repeated, joined}
+use Rattle.ci_yaml.specs.Prelude.{State, start, whole, inside, closed, settle, value_of, same_text, has_name, is_node, with_given, begun, is_repeated}
 use Rattle.ci_yaml.specs.Prelude.{begins, member_next, whole_of, bare_next, next_by, next, run, when, least, at_level, level_open, column_open, awaited, is_empty, fits, is_key}
 use Rattle.ci_yaml.specs.Prelude.{is_named, opens_above, too_deep, repeats_by, codes_at, or_else, place_codes, MAX_DEPTH}
 use Rattle.ci_yaml.specs.Reading.{Frame, entered}

@@ -2,7 +2,7 @@
 use Rattle.std.proofs.Common.{◌≡◌, ℕ, zero, suc, ◌<◌, ◌≤◌, Bool, true, false, cond, List, [], ◌∷◌, length, Option, None, refl, sym, ◌∙◌, ap, arith, inl, inr, ◌==◌, ◌||◌}
 use Rattle.std.specs.Prelude.{⊤}
 use Rattle.std.proofs.lemmas.Bool.{cases_lt, eq-eqb, ne_eqb}
-use Rattle.ci_yaml.specs.Prelude.{Value, Head, Entry, level, level_open, opens_above}
+use Rattle.ci_yaml.specs.Prelude.{Value, Entry, level, level_open, opens_above}
 use Rattle.ci_yaml.specs.Reading.{Frame}
 use Rattle.ci_yaml.proofs.Sound.{Stands}
 use Rattle.ci_yaml.proofs.Opened.{some_name, frames_with, AllBelow, none-below, below-more, stands-below, open-is}

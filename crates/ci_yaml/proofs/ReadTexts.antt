@@ -1,17 +1,17 @@
 -- What reading the lines of a text says of the text.
-use Rattle.std.proofs.Common.{◌≡◌, ℕ, zero, suc, ◌-◌, ◌≤◌, ◌⊎◌, inl, inr, Bool, true, false, cond, List, [], ◌∷◌, ◌++◌, map, length, take, Some, None, Result, Ok, Err, refl, sym}
+use Rattle.std.proofs.Common.{◌≡◌, ℕ, zero, suc, ◌-◌, ◌≤◌, ◌⊎◌, inl, inr, Bool, true, false, cond, List, [], ◌∷◌, map, length, take, Some, None, Result, Ok, Err, refl, sym}
 use Rattle.std.proofs.Common.{◌∙◌, ap, subst, arith, ◌==◌, IfOk, IfErr, slice_index}
 use Rattle.std.specs.Prelude.{⊤}
 use Rattle.std.specs.List.{slice_split, onto_first}
 use Rattle.std.specs.Str.Lines.{lines, lines_of_parts}
 use Rattle.std.proofs.lemmas.List.{take-append-drop}
 use denote.Bor.{Bor}
-use Rattle.ci_yaml.specs.Prelude.{MAX_FILE_BYTES, Code, Y12, YamlFault, Tree, value_view, Value, Entry, ◌>>=◌, State, start, whole, inside, finished, Line, Parses, none, HasTree}
-use Rattle.ci_yaml.specs.Prelude.{IsGood, IsFault, at_line, no_content, texts_of, Reader, line_next, read_lines, beginning, StopsAt, AreShort, Reads, RefusedBy, GivesTree}
-use Rattle.ci_yaml.proofs.Sound.{StateStands}
-use Rattle.ci_yaml.proofs.LinesSound.{read-stands}
+use Rattle.ci_yaml.specs.Prelude.{MAX_FILE_BYTES, Code, Y12, YamlFault, Tree, value_view, Value, Entry, State, start, finished, Line, Parses, HasTree}
+use Rattle.ci_yaml.specs.Prelude.{IsGood, IsFault, at_line, no_content, texts_of, Reader, read_lines, beginning, StopsAt, AreShort, Reads, RefusedBy, GivesTree}
+use Rattle.ci_yaml.proofs.Sound.{StateStands, some_is, ok_is}
+use Rattle.ci_yaml.proofs.LinesSound.{lines-stand}
 use Rattle.ci_yaml.proofs.LeastCodes.{stop-least}
-use Rattle.ci_yaml.proofs.Trees.{tree-is, tree-read, read-good, good-read, good-front, last-by}
+use Rattle.ci_yaml.proofs.Trees.{tree-is, tree-read, good-front, stopped, stop-is_first}
 
 -- ---- how long lines are
 
@@ -82,9 +82,6 @@ texts-short bs xs le e = subst AreShort (sym (texts-are bs xs e)) (lines-short b
 
 -- ---- what a text has
 
-ok-same : (r s : Reader) (x : Result Reader Code) → x ≡ Ok r → x ≡ Ok s → r ≡ s
-ok-same r s x p q = cc
-
 pub text-tree : (bs : List ℕ) (res : Result Tree YamlFault) → length bs ≤ MAX_FILE_BYTES → Reads (lines bs) res → IfOk res (λ t. HasTree bs (value_view t))
 text-tree bs (Ok t) le h =
     let d = tree-is (lines bs) h.0 (value_view t) h.1 h.2 in
@@ -93,26 +90,17 @@ text-tree bs (Err e) le h = tt
 
 pub fault-at : (bs : List ℕ) (at : ℕ) (code : Code) → length bs ≤ MAX_FILE_BYTES → StopsAt (lines bs) at code → IsFault bs at code
 fault-at bs at code le s =
-    let good : IsGood s.before = read-good s.before s.reader s.read in
-    let stand = read-stands beginning [] s.before s.reader s.read (record { entries = []; parses = none; stands = refl }) in
-    let code-is = stop-least s.before s.stop s.reader code stand s.fault in
+    let f = stop-is_first (lines bs) at code s in
     at_line le s.before s.stop s.after s.parts s.number
-    (λ k le'. good-front (take k s.before) _ (subst IsGood (sym (take-append-drop k s.before)) good))
-    (λ g. bad (good-read (s.before ++ s.stop ∷ []) g))
-    code-is
-  where
-    bad : (r : Reader) × (read_lines beginning (s.before ++ s.stop ∷ []) ≡ Ok r) → ⊥
-    bad r =
-        let e : Err code ≡ Ok r.0 = sym (last-by beginning s.before s.stop s.reader s.read ∙ ap (λ (y : Result Reader Code). y >>= λ t. read_lines t []) s.fault) ∙ r.1 in
-        absurd cc
+    (λ k le'. good-front (take k s.before) _ (subst IsGood (sym (take-append-drop k s.before)) f.0)) f.1
+    (stop-least s.before s.stop s.reader code (lines-stand s.before s.reader s.read) s.fault)
 
 pub nothing-by : (ls : List Line) (r : Reader) (st : State) → r.state ≡ st → read_lines beginning ls ≡ Ok r → finished st ≡ None → Parses ls [] r.end
-nothing-by ls r (whole v) is e f = absurd cc
-nothing-by ls r (inside fs given) is e f = absurd cc
 nothing-by ls r start is e f =
-    let h = read-stands beginning [] ls r e (record { entries = []; parses = none; stands = refl }) in
+    let h = lines-stand ls r e in
     let empty : h.entries ≡ [] = subst (λ (s : State). StateStands s h.entries) is h.stands in
     subst (λ (es : List Entry). Parses ls es r.end) empty h.parses
+nothing-by ls r st is e f = absurd cc
 
 refused-by : (bs : List ℕ) (at : ℕ) (code : Code) → length bs ≤ MAX_FILE_BYTES
     → StopsAt (lines bs) at code ⊎ ((r : Reader) × (read_lines beginning (lines bs) ≡ Ok r) × (finished r.state ≡ None) × (at ≡ 1) × (code ≡ Y12)) → IsFault bs at code
@@ -124,38 +112,20 @@ text-refused bs (Ok t) le h = tt
 text-refused bs (Err YamlFault.Memory) le h = tt
 text-refused bs (Err (YamlFault.Fault code at)) le h = refused-by bs at code le h
 
-some-same : (v w : Value) → Some v ≡ Some w → v ≡ w
-some-same v w e = cc
-
-prefix-read : (r : Reader) (a b : List Line) (l : Line) (m : Reader) (s : Reader) (code : Code) → read_lines r a ≡ Ok m → line_next m l ≡ Err code → read_lines r (a ++ l ∷ b) ≡ Ok s → ⊥
-prefix-read r [] b l m s code read fault e =
-    let same : r ≡ m = cc in
-    let no : Err code ≡ Ok s = sym (ap (λ (x : Reader). line_next x l >>= λ t. read_lines t b) same ∙ ap (λ (y : Result Reader Code). y >>= λ t. read_lines t b) fault) ∙ e in
-    absurd cc
-prefix-read r (x ∷ a) b l m s code read fault e = by (line_next r x) read e (λ t. prefix-read t a b l m s code)
-  where
-    by : (res : Result Reader Code) → (res >>= λ t. read_lines t a) ≡ Ok m → (res >>= λ t. read_lines t (a ++ l ∷ b)) ≡ Ok s
-        → ((t : Reader) → read_lines t a ≡ Ok m → line_next m l ≡ Err code → read_lines t (a ++ l ∷ b) ≡ Ok s → ⊥) → ⊥
-    by (Ok t) p q ih = ih t p fault q
-    by (Err d) p q ih = absurd cc
-
 no-tree-by : (bs : List ℕ) (v : Value) (at : ℕ) (code : Code) (s : Reader) → read_lines beginning (lines bs) ≡ Ok s → finished s.state ≡ Some v
     → StopsAt (lines bs) at code ⊎ ((r : Reader) × (read_lines beginning (lines bs) ≡ Ok r) × (finished r.state ≡ None) × (at ≡ 1) × (code ≡ Y12)) → ⊥
-no-tree-by bs v at code s e f (inl h) = prefix-read beginning h.before h.after h.stop h.reader s code h.read h.fault (ap (read_lines beginning) (sym h.parts) ∙ e)
+no-tree-by bs v at code s e f (inl h) = stopped (lines bs) at code h.after s h (ap (read_lines beginning) (sym h.parts) ∙ e)
 no-tree-by bs v at code s e f (inr h) =
-    let same : s ≡ h.0 = ok-same s h.0 (read_lines beginning (lines bs)) e h.1 in
+    let same : s ≡ h.0 = ok_is (read_lines beginning (lines bs)) s h.0 e h.1 in
     let no : Some v ≡ None = sym f ∙ ap (λ (r : Reader). finished r.state) same ∙ h.2 in
     absurd cc
 
 pub text-all : (bs : List ℕ) (res : Result Tree YamlFault) → Reads (lines bs) res → (v : Value) → HasTree bs v → GivesTree v res
 text-all bs (Ok t) h v d =
     let a = tree-read (lines bs) d.entries d.end v d.parses d.document in
-    let same : h.0 ≡ a.reader = ok-same h.0 a.reader (read_lines beginning (lines bs)) h.1 a.read in
-    some-same (value_view t) v (sym h.2 ∙ ap (λ (r : Reader). finished r.state) same ∙ a.tree)
+    let same : h.0 ≡ a.reader = ok_is (read_lines beginning (lines bs)) h.0 a.reader h.1 a.read in
+    some_is (value_view t) v (sym h.2 ∙ ap (λ (r : Reader). finished r.state) same ∙ a.tree)
 text-all bs (Err YamlFault.Memory) h v d = tt
 text-all bs (Err (YamlFault.Fault code at)) h v d =
     let a = tree-read (lines bs) d.entries d.end v d.parses d.document in
     no-tree-by bs v at code a.reader a.read a.tree h
-
-pub from-ok : {V E : Type 0} (r : Result V E) (v : V) (P : V → Type 0) → r ≡ Ok v → IfOk r P → P v
-from-ok r v P e h = subst (λ x. IfOk x P) e h

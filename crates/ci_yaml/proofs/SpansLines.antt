@@ -1,9 +1,7 @@
 -- Lines whose texts stand one behind the other, as more lines are read.
-use Rattle.std.proofs.Common.{◌≡◌, ℕ, zero, suc, ◌+◌, ◌≤◌, false, ◌⊎◌, inl, inr, List, [], ◌∷◌, ◌++◌, length, take, drop, refl, sym, ◌∙◌, ap, subst, append_assoc, length-append, arith}
+use Rattle.std.proofs.Common.{◌≡◌, ℕ, suc, ◌+◌, ◌⊎◌, inl, inr, List, [], ◌∷◌, ◌++◌, length, refl, sym, ◌∙◌, ap, subst, append_assoc, length-append, arith}
 use Rattle.std.proofs.lemmas.List.{append-nil}
-use Rattle.std.proofs.Math.Seq.{take-add}
-use Rattle.ci_yaml.specs.Prelude.{Text, bytes_of, Line, is_lent, literal, Stand, StandOn, IsBlockAt, Lines, Follow, Ends, no_text, last_text}
-use Rattle.ci_yaml_lines.specs.Prelude.{Chomp}
+use Rattle.ci_yaml.specs.Prelude.{Text, bytes_of, Line, is_lent, Stand, StandOn, Lines}
 use Rattle.ci_yaml.specs.Spans.{line, block, none}
 use Rattle.ci_yaml_lines.proofs.SpansStand.{stand-front}
 
@@ -61,43 +59,3 @@ lines-append doc n xs bs ts us (block n' xs' lines behind how t ts' parts at own
     let e : n + length xs ≡ n + length lines + length behind = omega arith in
     block n (xs ++ bs) lines (behind ++ bs) how t (ts' ++ us) (ap (λ (x : List Line). x ++ bs) parts ∙ append_assoc lines behind bs) at own bytes span
     (lines-append doc (n + length lines) behind bs ts' us rest (subst (λ (m : ℕ). Lines doc m bs us) e h))
-
--- ---- the first lines of a list, so many
-
-pub take-length : (n : ℕ) (ls : List Line) → n ≤ length ls → length (take n ls) ≡ n
-take-length zero ls le = refl
-take-length (suc n) [] le = absurd (omega arith)
-take-length (suc n) (l ∷ ls) le = let less : n ≤ length ls = omega arith in ap suc (take-length n ls less)
-
-take-one : (n : ℕ) (l : Line) (ls rest : List Line) → drop n ls ≡ l ∷ rest → (take (suc n) ls ≡ take n ls ++ l ∷ []) × (n ≤ length ls)
-take-one zero l [] rest e = absurd cc
-take-one zero l (m ∷ ls) rest e = let same : m ≡ l = cc in (ap (λ (x : Line). x ∷ []) same, omega arith)
-take-one (suc n) l [] rest e = absurd cc
-take-one (suc n) l (m ∷ ls) rest e = let h = take-one n l ls rest e in (ap (λ (x : List Line). m ∷ x) h.0, omega (arith, h.1))
-
--- one line more
-pub line-follows : (doc : List Line) (n : ℕ) (l : Line) (ls rest : List Line) (ts all : List Text) → drop n ls ≡ l ∷ rest → Lines doc 0 (take n ls) ts → Follow (suc n) l ts all → Lines doc 0 (take (suc n) ls) all
-line-follows doc n l ls rest ts all e h f =
-    let h1 = take-one n l ls rest e in
-    let e1 : n ≡ 0 + length (take n ls) = omega (arith, take-length n ls h1.1) in
-    let one : Lines doc n (l ∷ []) f.texts = line n l [] f.texts [] f.texts f.stand (none (suc n) []) (sym (append-nil f.texts)) in
-    subst (λ (x : List Line). Lines doc 0 x all) (sym h1.0)
-    (subst (Lines doc 0 (take n ls ++ l ∷ [])) (sym f.parts)
-    (lines-append doc 0 (take n ls) (l ∷ []) ts f.texts h (subst (λ (m : ℕ). Lines doc m (l ∷ []) f.texts) e1 one)))
-
--- a literal block more, whose text takes the place of the last one
-pub block-follows : (doc : List Line) (n : ℕ) (lines ls : List Line) (how : Chomp) (t : Text) (all ending : List Text) → n ≤ length ls → lines ≡ drop n ls → (k : ℕ) → k ≤ length lines
-    → IsBlockAt doc n how (take k lines) → is_lent t.words ≡ false → bytes_of t ≡ literal how (take k lines)
-    → t.span ≡ record { start = record { line = suc n; column = 0 }; end = record { line = suc (n + k); column = 0 } }
-    → Lines doc 0 (take n ls) all → Ends t all ending → Lines doc 0 (take (n + k) ls) ending
-block-follows doc n lines ls how t all ending le e k less at own bytes span h (no_text is) = subst (Lines doc 0 (take (n + k) ls)) (sym is) (none 0 (take (n + k) ls))
-block-follows doc n lines ls how t all ending le e k less at own bytes span h (last_text before behind parts is) =
-    let e1 : n ≡ 0 + length (take n ls) = omega (arith, take-length n ls le) in
-    let size : length (take k lines) ≡ k = take-length k lines less in
-    let one : Lines doc n (take k lines) (t ∷ []) =
-    block n (take k lines) (take k lines) [] how t [] (sym (append-nil (take k lines))) at own bytes
-    (span ∙ ap (λ (m : ℕ). record { start = record { line = suc n; column = 0 }; end = record { line = suc (n + m); column = 0 } }) (sym size)) (none (n + length (take k lines)) []) in
-    let both : Lines doc 0 (take n ls ++ take k lines) (before ++ t ∷ []) =
-    lines-append doc 0 (take n ls) (take k lines) before (t ∷ []) (lines-front doc 0 (take n ls) before behind (subst (Lines doc 0 (take n ls)) parts h)) (subst (λ (m : ℕ). Lines doc m (take k lines) (t ∷ [])) e1 one) in
-    subst (Lines doc 0 (take (n + k) ls)) (sym is)
-    (subst (λ (x : List Line). Lines doc 0 x (before ++ t ∷ [])) (ap (λ (x : List Line). take n ls ++ take k x) e ∙ sym (take-add n k ls)) both)

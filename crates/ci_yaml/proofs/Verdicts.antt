@@ -3,13 +3,13 @@ use Rattle.std.proofs.Common.{◌≡◌, ℕ, suc, ◌<◌, ◌≤◌, ◌⊎◌
 use Rattle.std.proofs.Common.{append_assoc, ◌-◌, get_or, IfOk, IfErr}
 use Rattle.std.specs.Str.Lines.{lines}
 use Rattle.std.proofs.lemmas.Bool.{cases_lt}
-use Rattle.ci_yaml.specs.Prelude.{MAX_FILE_BYTES, Code, Y1, Y2, Y3, Y4, Y5, Y6, Y7, Y8, Y9, Y10, Y11, Y12, Value, null, boolean, number, text, node, Entry, IsNode, IsDocument}
+use Rattle.ci_yaml.specs.Prelude.{MAX_FILE_BYTES, Code, Y1, Y2, Y3, Y4, Y5, Y6, Y7, Y8, Y9, Y10, Y11, Y12, Value, node, Entry, IsNode, IsDocument}
 use Rattle.ci_yaml.specs.Prelude.{of_node, finished, Line, Holds, HasTree, IsGood, has_tree, skipped, IsFault, too_long, at_line, no_content, Reader, read_lines, beginning}
-use Rattle.ci_yaml.specs.Prelude.{StopsAt, RefusedBy, GivesFault, value_view, Tree, YamlFault}
+use Rattle.ci_yaml.specs.Prelude.{RefusedBy, GivesFault, value_view, Tree, YamlFault}
 use Rattle.ci_yaml.specs.Node.{of_line}
 use Rattle.ci_yaml_lines.specs.Least.{number_of}
 use Rattle.ci_yaml.proofs.LeastCodes.{parses-same}
-use Rattle.ci_yaml.proofs.Trees.{some_is, tree-is, good-front, stops}
+use Rattle.ci_yaml.proofs.Trees.{tree-is, good-front, stops}
 use Rattle.ci_yaml.proofs.ReadTexts.{fault-at, nothing-by}
 
 -- ---- codes differ in their numbers
@@ -96,13 +96,8 @@ not_both bs v i c h (no_content size end parses at is) = nothing-has v h.entries
 
 -- ---- one of both
 
-stops-at : (ls : List Line) (code : Code) → read_lines beginning ls ≡ Err code → (at : ℕ) × StopsAt ls at code
-stops-at ls code e =
-    let s = stops beginning ls code e in
-    (suc (length s.before), record { before = s.before; stop = s.at; after = s.after; reader = s.reader; parts = s.parts; number = refl; read = s.read; fault = s.fault })
-
 verdict-by : (bs : List ℕ) (res : Result Reader Code) → length bs ≤ MAX_FILE_BYTES → read_lines beginning (lines bs) ≡ res → ((v : Value) × HasTree bs v) ⊎ ((at : ℕ) × (code : Code) × IsFault bs at code)
-verdict-by bs (Err code) le e = let s = stops-at (lines bs) code e in inr (s.0, code, fault-at bs s.0 code le s.1)
+verdict-by bs (Err code) le e = let s = stops (lines bs) code e in inr (s.0, code, fault-at bs s.0 code le s.1)
 verdict-by bs (Ok r) le e = by (finished r.state) refl
   where
     by : (o : Option Value) → finished r.state ≡ o → ((v : Value) × HasTree bs v) ⊎ ((at : ℕ) × (code : Code) × IsFault bs at code)

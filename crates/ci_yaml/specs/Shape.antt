@@ -1,6 +1,6 @@
 -- What each tree of a text has: keys that differ, and at most ten maps and lists within one another.
 use Rattle.std.specs.Prelude.{ℕ, suc, max, ⊤}
-use Rattle.ci_yaml_lines.specs.Prelude.{Value, null, boolean, number, text, node, Members, no_members, member, NamesFit}
+use Rattle.ci_yaml_lines.specs.Prelude.{Value, node, Members, no_members, member, NamesFit}
 
 abbrev mutual
   -- in each map of it the keys differ

@@ -1,13 +1,11 @@
-use Rattle.std.proofs.Common.{[], refl}
-use Rattle.ci_yaml.specs.Prelude.{none, beginning}
-use Rattle.ci_yaml.proofs.LinesSound.{read-stands}
+use Rattle.ci_yaml.proofs.LinesSound.{lines-stand}
 use Rattle.ci_yaml.proofs.Trees.{stops, stop-is_first}
 use Rattle.ci_yaml.proofs.LeastCodes.{stop-least}
 use Rattle.ci_yaml.proofs.laws.stops_first.Goals as goal
 
 pub returns : goal.returns
 returns c =
-    λ ls code e. let s = stops beginning ls code e in
-    let f = stop-is_first ls code s in
-    let h = read-stands beginning [] s.before s.reader s.read (record { entries = []; parses = none; stands = refl }) in
-    (s.before, s.at, s.after, s.parts, f.0, f.1, stop-least s.before s.at s.reader code h s.fault)
+    λ ls code e. let at = stops ls code e in
+    let s = at.1 in
+    let f = stop-is_first ls at.0 code s in
+    (s.before, s.stop, s.after, s.parts, f.0, f.1, stop-least s.before s.stop s.reader code (lines-stand s.before s.reader s.read) s.fault)
