@@ -1,21 +1,18 @@
 -- The lines of a block, one after the other.
-use Rattle.std.proofs.Common.{◌≡◌, ℕ, zero, suc, ◌+◌, ◌-◌, ◌<◌, ◌≤◌, Bool, true, false, cond, List, [], ◌∷◌, ◌++◌, length, take, drop, get_or, Option, Some, None, refl, sym, ◌∙◌}
+use Rattle.std.proofs.Common.{◌≡◌, ℕ, suc, ◌+◌, ◌-◌, ◌<◌, ◌≤◌, Bool, true, false, cond, List, [], ◌∷◌, ◌++◌, length, take, drop, get_or, Option, Some, None, refl, sym, ◌∙◌}
 use Rattle.std.proofs.Common.{ap, subst, append_assoc, arith, ◌==◌, ◌&&◌}
 use denote.Bor.{Bor}
-use Rattle.std.proofs.lemmas.List.{take_more, append-nil, length-drop, nil_from_length}
+use Rattle.std.proofs.lemmas.List.{take_more, append-nil, length-drop, nil_from_length, map-append, length-map, take-map}
 use Rattle.ci_yaml_lines.proofs.Lists.{last-parted, drop-at, push-some}
 use Rattle.ci_yaml.specs.Prelude.{spaces, Line, is_spaces, is_in_block, first_indent, more_indent, indent_codes, block_codes, kept_len, without_end, AreBlock, texts_of, cut_text}
 use Rattle.ci_yaml.specs.Prelude.{cut_lines, cut_strip, least}
 use Rattle.ci_yaml_lines.proofs.Leasts.{no_least}
-use Rattle.ci_yaml_lines.proofs.Bools.{eq-false}
 
 texts-push : (xs : List (Bor (List ℕ))) (x : Bor (List ℕ)) → texts_of (xs ++ x ∷ []) ≡ texts_of xs ++ x.now ∷ []
-texts-push [] x = refl
-texts-push (y ∷ xs) x = ap (λ (ls : List Line). y.now ∷ ls) (texts-push xs x)
+texts-push xs x = map-append (λ s. s.now) xs (x ∷ [])
 
 pub length-texts : (xs : List (Bor (List ℕ))) → length (texts_of xs) ≡ length xs
-length-texts [] = refl
-length-texts (x ∷ xs) = ap suc (length-texts xs)
+length-texts xs = length-map xs (λ s. s.now)
 
 -- the lines from a place on
 pub texts-next : (xs : List (Bor (List ℕ))) (i : ℕ) (d : Bor (List ℕ)) (l : Line) → i < length xs → l ≡ (get_or xs i d).now → texts_of (drop i xs) ≡ l ∷ texts_of (drop (i + 1) xs)
@@ -28,15 +25,12 @@ kept-more : (ls : List Line) (l : Line) → is_spaces l ≡ true → kept_len (l
 kept-more [] l e = ap (λ t. cond t 0 1) e
 kept-more (m ∷ ls) l e = ap (λ n. cond ((n == 0) && is_spaces m) 0 (1 + n)) (kept-more ls l e)
 
-full : (n : ℕ) (l : Line) → 0 < n → cond ((n == 0) && is_spaces l) 0 (1 + n) ≡ suc n
-full n l lt = let some : n ≡ 0 → ⊥ = (λ e. absurd (omega (arith, e))) in ap (λ t. cond (t && is_spaces l) 0 (1 + n)) (eq-false n 0 some) ∙ add n
-  where
-    add : (m : ℕ) → 1 + m ≡ suc m
-    add m = omega arith
-
 kept-all : (ls : List Line) (l : Line) → is_spaces l ≡ false → kept_len (ls ++ l ∷ []) ≡ length (ls ++ l ∷ [])
 kept-all [] l e = ap (λ t. cond t 0 1) e
-kept-all (m ∷ ls) l e = ap (λ n. cond ((n == 0) && is_spaces m) 0 (1 + n)) (kept-all ls l e) ∙ full (length (ls ++ l ∷ [])) m (push-some ls l)
+kept-all (m ∷ ls) l e = rw (kept-all ls l e) (by (length (ls ++ l ∷ [])) (is_spaces m) (push-some ls l))
+  where
+    by : (n : ℕ) (t : Bool) → 0 < n → cond ((n == 0) && t) 0 (1 + n) ≡ suc n
+    by n t lt = grind arith
 
 texts-parted : (xs : List (Bor (List ℕ))) (d : Bor (List ℕ)) (l : Line) → 1 ≤ length xs → l ≡ (get_or xs (length xs - 1) d).now → texts_of xs ≡ texts_of (take (length xs - 1) xs) ++ l ∷ []
 texts-parted xs d l le is =
@@ -89,30 +83,36 @@ strip-parts n xs d a b e le b-is e-is =
     ∙ ap (λ (ls : List Line). a ++ cut_strip n ls) (sym (texts-parted xs d l le refl))
 
 pub texts-take : (n : ℕ) (xs : List (Bor (List ℕ))) → texts_of (take n xs) ≡ take n (texts_of xs)
-texts-take zero xs = refl
-texts-take (suc n) [] = refl
-texts-take (suc n) (x ∷ xs) = ap (λ (ls : List Line). x.now ∷ ls) (texts-take n xs)
+texts-take n xs = sym (take-map (λ s. s.now) n xs)
 
 pub texts-front : (n : ℕ) (xs : List (Bor (List ℕ))) → n ≡ kept_len (texts_of xs) → texts_of (take n xs) ≡ without_end (texts_of xs)
 texts-front n xs e = texts-take n xs ∙ ap (λ (k : ℕ). take k (texts_of xs)) e
 
 -- ---- the block's lines, one more
 
-indent-by : (t : Bool) (ls : List Line) (m l : Line) → first_indent (ls ++ l ∷ []) ≡ more_indent (first_indent ls) l
-    → cond t (first_indent (ls ++ l ∷ [])) (Some (spaces m)) ≡ more_indent (cond t (first_indent ls) (Some (spaces m))) l
-indent-by true ls m l ih = ih
-indent-by false ls m l ih = refl
+-- the indent of the first lines, or else that of the others
+abbrev first_of : Option ℕ → Option ℕ → Option ℕ
+first_of None o = o
+first_of (Some n) o = Some n
 
-indent-push : (ls : List Line) (l : Line) → first_indent (ls ++ l ∷ []) ≡ more_indent (first_indent ls) l
-indent-push [] l = refl
-indent-push (m ∷ ls) l = indent-by (is_spaces m) ls m l (indent-push ls l)
+pub first-append : (a b : List Line) → first_indent (a ++ b) ≡ first_of (first_indent a) (first_indent b)
+first-append [] b = refl
+first-append (l ∷ a) b = rw (first-append a b) (by (is_spaces l) (first_indent a))
+  where
+    by : (t : Bool) (x : Option ℕ) → cond t (first_of x (first_indent b)) (Some (spaces l)) ≡ first_of (cond t x (Some (spaces l))) (first_indent b)
+    by true x = refl
+    by false x = refl
+
+more-is : (o : Option ℕ) (l : Line) → first_of o (first_indent (l ∷ [])) ≡ more_indent o l
+more-is None l = refl
+more-is o l = refl
 
 texts-more : (xs : List (Bor (List ℕ))) (i : ℕ) (d : Bor (List ℕ)) (l : Line) → i < length xs → l ≡ (get_or xs i d).now → texts_of (take (i + 1) xs) ≡ texts_of (take i xs) ++ l ∷ []
 texts-more xs i d l lt is = ap texts_of (take_more xs i d lt) ∙ texts-push (take i xs) (get_or xs i d) ∙ ap (λ (m : Line). texts_of (take i xs) ++ m ∷ []) (sym is)
 
 pub indent-more : (xs : List (Bor (List ℕ))) (i : ℕ) (d : Bor (List ℕ)) (l : Line) (o p : Option ℕ) → i < length xs → l ≡ (get_or xs i d).now → o ≡ first_indent (texts_of (take i xs)) → p ≡ more_indent o l → p ≡ first_indent (texts_of (take (i + 1) xs))
 indent-more xs i d l o p lt is o-is p-is =
-    p-is ∙ ap (λ x. more_indent x l) o-is ∙ sym (indent-push (texts_of (take i xs)) l) ∙ ap first_indent (sym (texts-more xs i d l lt is))
+    p-is ∙ ap (λ x. more_indent x l) o-is ∙ sym (first-append (texts_of (take i xs)) (l ∷ []) ∙ more-is (first_indent (texts_of (take i xs))) l) ∙ ap first_indent (sym (texts-more xs i d l lt is))
 
 pub are-push : (c : ℕ) (before ls : List Line) (l : Line) → AreBlock c before ls → is_in_block c l ≡ true → block_codes (before ++ ls) l ≡ [] → AreBlock c before (ls ++ l ∷ [])
 are-push c before [] l are inside_it clean = (inside_it, subst (λ (b : List Line). block_codes b l ≡ []) (append-nil before) clean, tt)

@@ -1,5 +1,5 @@
 -- Before its block a header's entry holds an empty text.
-use Rattle.std.proofs.Common.{◌≡◌, ℕ, List, [], ◌∷◌, Option, Some, None, refl, sym, ◌∙◌, ap}
+use Rattle.std.proofs.Common.{◌≡◌, ℕ, List, [], ◌∷◌, Option, Some, None, refl, sym, ◌∙◌, ap, subst}
 use Rattle.std.specs.Prelude.{⊤}
 use Rattle.ci_yaml.specs.Prelude.{Code, Value, text, Head, dash, key, bare, Entry, clip, strip, keep, Written, written_at, written, ParsedLine, entry_of, header_code, parse_line}
 use Rattle.ci_yaml.specs.Prelude.{Line, literal, filled, entries_with}
@@ -11,12 +11,14 @@ abbrev pub HasText : Option Chomp → Option Value → Type 0
 HasText None given = ⊤
 HasText (Some how) given = given ≡ Some (text [])
 
--- the same of the last entry
+abbrev pub NotEmpty : List Entry → Type 0
+NotEmpty [] = ⊥
+NotEmpty (e ∷ es) = ⊤
+
+-- beside a header are entries, of which the last has an empty text
 abbrev LastHasText : Option Chomp → List Entry → Type 0
 LastHasText None es = ⊤
-LastHasText (Some how) [] = ⊥
-LastHasText (Some how) (e ∷ []) = e.given ≡ Some (text [])
-LastHasText (Some how) (e ∷ f ∷ es) = LastHasText (Some how) (f ∷ es)
+LastHasText (Some how) es = NotEmpty es × (filled es [] ≡ es)
 
 abbrev pub WrittenFits : Written → Type 0
 WrittenFits w = HasText w.header w.given
@@ -29,15 +31,15 @@ forms-fit = record { in_quotes = λ q. tt; unclosed = tt; in_list = λ w. tt; in
 
 entry-by : (h : Option Chomp) (e : Entry) → HasText h e.given → LastHasText h (e ∷ [])
 entry-by None e p = tt
-entry-by (Some how) e p = p
+entry-by (Some how) e p = (tt, ap (λ g. (record e { given = g }) ∷ []) (sym p))
 
 entry-fits : (c : ℕ) (hd : Head) (w : Written) (cs : List Code) → WrittenFits w → ParsedFits (entry_of c hd w cs)
 entry-fits c hd w cs p = entry-by w.header (record { column = c; head = hd; given = w.given }) p
 
 cons-fits : (h : Option Chomp) (e : Entry) (es : List Entry) → LastHasText h es → LastHasText h (e ∷ es)
 cons-fits None e es p = tt
-cons-fits (Some how) e [] p = absurd p
-cons-fits (Some how) e (f ∷ es) p = p
+cons-fits (Some how) e [] p = absurd p.0
+cons-fits (Some how) e (f ∷ es) p = (tt, ap (λ (x : List Entry). e ∷ x) p.1)
 
 lines-fit : OfLines ParsedFits
 lines-fit = record {
@@ -57,15 +59,14 @@ nothing-in clip = refl
 nothing-in strip = refl
 nothing-in keep = refl
 
-filled-same : (how : Chomp) (es : List Entry) → LastHasText (Some how) es → filled es [] ≡ es
-filled-same how [] p = refl
-filled-same how (e ∷ []) p = ap (λ g. (record e { given = g }) ∷ []) (sym p)
-filled-same how (e ∷ f ∷ es) p = ap (λ (x : List Entry). e ∷ x) (filled-same how (f ∷ es) p)
-
 entries-by : (h : Option Chomp) (es : List Entry) → LastHasText h es → entries_with h es [] ≡ es
 entries-by None es p = refl
-entries-by (Some how) es p = ap (filled es) (nothing-in how) ∙ filled-same how es p
+entries-by (Some how) es p = ap (filled es) (nothing-in how) ∙ p.1
 
 -- the empty block below a header changes nothing
 pub entries-same : (l : Line) → entries_with (parse_line l).header (parse_line l).entries [] ≡ (parse_line l).entries
 entries-same l = entries-by (parse_line l).header (parse_line l).entries (line-each ParsedFits lines-fit l)
+
+-- a line with a header has an entry
+pub header-fits : (l : Line) (how : Chomp) → (parse_line l).header ≡ Some how → NotEmpty (parse_line l).entries
+header-fits l how is = (subst (λ h. LastHasText h (parse_line l).entries) is (line-each ParsedFits lines-fit l)).0

@@ -9,7 +9,7 @@ use Rattle.ci_yaml_lines.specs.Prelude.{Chomp}
 use Rattle.ci_yaml.specs.Reading.{Frame}
 use Rattle.ci_yaml.specs.Document.{line, block}
 use Rattle.ci_yaml.proofs.Sound.{bind_ok, run-append}
-use Rattle.ci_yaml.proofs.LinesSound.{NotEmpty, header-fits}
+use Rattle.ci_yaml.proofs.Headers.{NotEmpty, header-fits}
 
 abbrev pub mapped : List ℕ → Result State Code → Result State Code
 mapped u (Ok s) = Ok (with_text u s)

@@ -1,8 +1,7 @@
 -- What is read of lines stands over entries that the lines say.
 use Rattle.std.proofs.Common.{◌≡◌, ℕ, Bool, true, false, cond, List, [], ◌∷◌, ◌++◌, Option, Some, None, Result, Ok, Err, refl, sym, ◌∙◌, ap, subst, append_assoc}
-use Rattle.std.specs.Prelude.{⊤}
 use Rattle.std.proofs.lemmas.List.{append-nil}
-use Rattle.ci_yaml.specs.Prelude.{Code, Value, text, Entry, ParsedLine, parse_line, Line, ◌>>=◌, State, start, whole, inside, run, is_in_block, block_codes, literal, Ending}
+use Rattle.ci_yaml.specs.Prelude.{Code, Value, text, Entry, parse_line, Line, ◌>>=◌, State, start, whole, inside, run, is_in_block, block_codes, literal, Ending}
 use Rattle.ci_yaml.specs.Prelude.{outside, within, IsOutside, filled, entries_with, last_column, Parses, none, least, Reader, with_text, stop_or, ending_at, content_by, content}
 use Rattle.ci_yaml.specs.Prelude.{line_by, line_next, read_lines, beginning}
 use Rattle.ci_yaml_lines.specs.Prelude.{Chomp}
@@ -10,7 +9,7 @@ use Rattle.ci_yaml.specs.Reading.{Frame}
 use Rattle.ci_yaml.specs.Document.{line, block}
 use Rattle.ci_yaml.proofs.Sound.{Stands, StateStands, run-stands, bind_ok, bind-both}
 use Rattle.ci_yaml_lines.proofs.Leasts.{no_least}
-use Rattle.ci_yaml_lines.proofs.Forms.{OfLines, line-each}
+use Rattle.ci_yaml.proofs.Headers.{NotEmpty, header-fits}
 use Rattle.ci_yaml.proofs.BlockLines.{are-push}
 
 abbrev pub parsed_entries : Line → List Entry
@@ -50,10 +49,6 @@ parses-line ls es end l (block m lines (r ∷ rest) below how es' all end' last 
 
 -- ---- one more line of a block
 
-abbrev pub NotEmpty : List Entry → Type 0
-NotEmpty [] = ⊥
-NotEmpty (e ∷ es) = ⊤
-
 filled-append : (a b : List Entry) (t : List ℕ) → NotEmpty b → filled (a ++ b) t ≡ a ++ filled b t
 filled-append [] b t h = refl
 filled-append (e ∷ []) [] t h = absurd h
@@ -74,24 +69,6 @@ filled-twice (e ∷ f ∷ g ∷ es) t u = ap (λ (x : List Entry). e ∷ x) (fil
 append-not_empty : (a b : List Entry) → NotEmpty b → NotEmpty (a ++ b)
 append-not_empty [] b h = h
 append-not_empty (e ∷ a) b h = tt
-
-abbrev pub HeaderFits : ParsedLine → Type 0
-HeaderFits s = (how : Chomp) → s.header ≡ Some how → NotEmpty s.entries
-
-lines-header : OfLines HeaderFits
-lines-header = record {
-  empty = λ cs how e. absurd cc;
-  bare_value = λ c w how e. tt;
-  key_value = λ c k how e. tt;
-  item_value = λ c bs how e. tt;
-  no_value = λ c cs how e. tt;
-  behind_dash = λ c s p how e. tt;
-  more_codes = λ cs s p. p;
-}
-
--- a line with a header has an entry
-pub header-fits : (l : Line) → HeaderFits (parse_line l)
-header-fits l = line-each HeaderFits lines-header l
 
 parses-in : (ls : List Line) (es : List Entry) (end : Ending) (how : Chomp) (c : ℕ) (so_far : List Line) (l : Line) → Parses ls es end → end ≡ within how c so_far
     → is_in_block c l ≡ true → block_codes so_far l ≡ []

@@ -1,12 +1,13 @@
 -- The text of a block whose lines fit it.
 use Rattle.std.proofs.Common.{◌≡◌, ℕ, zero, suc, ◌≤◌, Bool, true, false, cond, List, [], ◌∷◌, ◌++◌, take, drop, Option, Some, None, refl, sym, ◌∙◌, ap, subst, append_assoc, arith}
-use Rattle.std.proofs.Common.{min, not, nat_lt, ◌&&◌, unwrap_or}
+use Rattle.std.proofs.Common.{min, not, nat_lt, ◌&&◌}
 use Rattle.std.specs.Prelude.{⊤}
 use Rattle.std.proofs.Math.Nat.{min-eq_right}
 use Rattle.std.proofs.lemmas.List.{append-nil}
 use Rattle.std.proofs.lemmas.Bool.{ltb-false}
-use Rattle.ci_yaml.specs.Prelude.{Code, Y3, Y9, when, clip, strip, keep, spaces, has_byte_order_mark, Line, is_spaces, first_indent, block_indent, line_text, block_lines, kept_len}
-use Rattle.ci_yaml.specs.Prelude.{without_end, without_last, literal, is_low, indent_codes, AreBlock, cut_text, cut_lines, cut_strip}
+use Rattle.ci_yaml.specs.Prelude.{Y3, Y9, when, clip, strip, keep, spaces, has_byte_order_mark, Line, is_spaces, first_indent, block_indent, line_text, block_lines, kept_len}
+use Rattle.ci_yaml.proofs.BlockLines.{first-append}
+use Rattle.ci_yaml.specs.Prelude.{without_end, without_last, literal, indent_codes, AreBlock, cut_text, cut_lines, cut_strip}
 
 -- each of the lines that isn't all spaces has n spaces at least
 abbrev pub AreHigh : ℕ → List Line → Type 0
@@ -15,39 +16,17 @@ AreHigh n (l ∷ ls) = (is_spaces l ≡ false → n ≤ spaces l) × AreHigh n l
 
 -- ---- the indent of the first lines
 
-some-by : (t : Bool) (x y : Option ℕ) (n m : ℕ) → (x ≡ Some m → y ≡ Some m) → cond t x (Some n) ≡ Some m → cond t y (Some n) ≡ Some m
-some-by true x y n m ih e = ih e
-some-by false x y n m ih e = e
-
-first-some : (before ls : List Line) (m : ℕ) → first_indent before ≡ Some m → first_indent (before ++ ls) ≡ Some m
-first-some [] ls m e = absurd cc
-first-some (b ∷ before) ls m e = some-by (is_spaces b) (first_indent before) (first_indent (before ++ ls)) (spaces b) m (first-some before ls m) e
-
-none-by : (t : Bool) (x y z : Option ℕ) (n : ℕ) → (x ≡ None → y ≡ z) → cond t x (Some n) ≡ None → cond t y (Some n) ≡ z
-none-by true x y z n ih e = ih e
-none-by false x y z n ih e = absurd cc
-
-first-none : (before ls : List Line) → first_indent before ≡ None → first_indent (before ++ ls) ≡ first_indent ls
-first-none [] ls e = refl
-first-none (b ∷ before) ls e = none-by (is_spaces b) (first_indent before) (first_indent (before ++ ls)) (first_indent ls) (spaces b) (first-none before ls) e
-
-not-low-by : (t : Bool) (k m : ℕ) (low : Bool) → low ≡ nat_lt k m → t ≡ false → when (not t && low) Y3 ≡ [] → m ≤ k
-not-low-by true k m low is e h = absurd cc
-not-low-by false k m true is e h = absurd cc
-not-low-by false k m false is e h = ltb-false k m (sym is)
-
-when-front : (b : Bool) (c : Code) (more : List Code) → when b c ++ more ≡ [] → when b c ≡ []
-when-front true c more e = absurd cc
-when-front false c more e = refl
+not-low : (t y : Bool) (k m : ℕ) → (when (not t && nat_lt k m) Y3 ++ when y Y9) ≡ [] → t ≡ false → m ≤ k
+not-low true y k m h e = absurd cc
+not-low false y k m h e = by (nat_lt k m) refl h
+  where
+    by : (low : Bool) → nat_lt k m ≡ low → (when low Y3 ++ when y Y9) ≡ [] → m ≤ k
+    by true is h' = absurd cc
+    by false is h' = ltb-false k m is
 
 high-by : (o : Option ℕ) (before : List Line) (l : Line) (ls : List Line) → first_indent before ≡ o → indent_codes o l ≡ [] → is_spaces l ≡ false → block_indent (before ++ l ∷ ls) ≤ spaces l
-high-by (Some m) before l ls is clean e =
-    let n-is : block_indent (before ++ l ∷ ls) ≡ m = ap (λ o. unwrap_or o 0) (first-some before (l ∷ ls) m is) in
-    let le : m ≤ spaces l = not-low-by (is_spaces l) (spaces l) m (nat_lt (spaces l) m) refl e (when-front (is_low (Some m) l) Y3 (when (has_byte_order_mark l) Y9) clean) in
-    omega (arith, n-is, le)
-high-by None before l ls is clean e =
-    let n-is : block_indent (before ++ l ∷ ls) ≡ spaces l = ap (λ o. unwrap_or o 0) (first-none before (l ∷ ls) is ∙ ap (λ t. cond t (first_indent ls) (Some (spaces l))) e) in
-    omega (arith, n-is)
+high-by (Some m) before l ls is clean e = rw (first-append before (l ∷ ls), is) (not-low (is_spaces l) (has_byte_order_mark l) (spaces l) m clean e)
+high-by None before l ls is clean e = rw (first-append before (l ∷ ls), is, e) (omega arith)
 
 are-high : (c : ℕ) (before ls : List Line) → AreBlock c before ls → AreHigh (block_indent (before ++ ls)) ls
 are-high c before [] are = tt
@@ -108,14 +87,3 @@ clip-is c ls are = lines-are (block_indent ls) (without_end ls) (high-take (bloc
 
 pub strip-is_literal : (c : ℕ) (ls : List Line) → AreBlock c [] ls → cut_strip (block_indent ls) (without_end ls) ≡ literal strip ls
 strip-is_literal c ls are = strip-is (block_indent ls) (without_end ls) ∙ ap without_last (clip-is c ls are)
-
-pub keep-text : (n : ℕ) (ls : List Line) (a b : List ℕ) → a ≡ [] → n ≡ block_indent ls → b ≡ a ++ cut_lines n ls → (c : ℕ) → AreBlock c [] ls → b ≡ literal keep ls
-keep-text n ls a b a-is n-is e c are = e ∙ ap (λ (x : List ℕ). x ++ cut_lines n ls) a-is ∙ ap (λ k. cut_lines k ls) n-is ∙ keep-is c ls are
-
-pub clip-text : (n : ℕ) (ls kept : List Line) (a b : List ℕ) → a ≡ [] → n ≡ block_indent ls → kept ≡ without_end ls → b ≡ a ++ cut_lines n kept → (c : ℕ) → AreBlock c [] ls → b ≡ literal clip ls
-clip-text n ls kept a b a-is n-is k-is e c are =
-    e ∙ ap (λ (x : List ℕ). x ++ cut_lines n kept) a-is ∙ ap (λ k. cut_lines k kept) n-is ∙ ap (cut_lines (block_indent ls)) k-is ∙ clip-is c ls are
-
-pub strip-text : (n : ℕ) (ls kept : List Line) (a b : List ℕ) → a ≡ [] → n ≡ block_indent ls → kept ≡ without_end ls → b ≡ a ++ cut_strip n kept → (c : ℕ) → AreBlock c [] ls → b ≡ literal strip ls
-strip-text n ls kept a b a-is n-is k-is e c are =
-    e ∙ ap (λ (x : List ℕ). x ++ cut_strip n kept) a-is ∙ ap (λ k. cut_strip k kept) n-is ∙ ap (cut_strip (block_indent ls)) k-is ∙ strip-is_literal c ls are

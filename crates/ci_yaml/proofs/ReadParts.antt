@@ -1,6 +1,6 @@
 -- The same of lines as the code holds them.
 use Rattle.std.proofs.Common.{◌≡◌, ℕ, zero, suc, ◌+◌, ◌<◌, ◌≤◌, false, List, [], ◌∷◌, ◌++◌, length, take, drop, get_or, Option, Some, None, Ok, refl, sym, ◌∙◌, ap, subst, arith}
-use Rattle.std.proofs.lemmas.List.{length-take-le}
+use Rattle.std.proofs.lemmas.List.{length-take-le, drop-map}
 use denote.Bor.{Bor}
 use Rattle.ci_yaml.specs.Prelude.{MAX_FILE_BYTES, YamlFault, chomp_view, parse_line, Line, State, literal, AreBlock, EndsBlock, Ending, within, texts_of, with_text}
 use Rattle.ci_yaml.specs.Prelude.{content, below_view, FailsAt, BlockFails, StopsBy, HasRead, AreShort, Text, bytes_of, is_lent, spans_of, line_spans, Follow, Ends}
@@ -10,9 +10,7 @@ use Rattle.ci_yaml.proofs.BlockLines.{texts-next, texts-take, length-texts}
 use Rattle.ci_yaml.proofs.ReadSteps.{Read, ReadLine, IsText, line-more, line-stops, block-more, block-stops}
 
 texts-drop : (n : ℕ) (xs : List (Bor (List ℕ))) → texts_of (drop n xs) ≡ drop n (texts_of xs)
-texts-drop zero xs = refl
-texts-drop (suc n) [] = refl
-texts-drop (suc n) (x ∷ xs) = texts-drop n xs
+texts-drop n xs = sym (drop-map (λ s. s.now) n xs)
 
 part-at : (xs : List (Bor (List ℕ))) (at : ℕ) (d : Bor (List ℕ)) → at < length xs → drop at (texts_of xs) ≡ (get_or xs at d).now ∷ texts_of (drop (at + 1) xs)
 part-at xs at d lt = sym (texts-drop at xs) ∙ texts-next xs at d (get_or xs at d).now lt refl

@@ -1,10 +1,11 @@
 -- What reading the lines of a text says of the text.
-use Rattle.std.proofs.Common.{◌≡◌, ℕ, zero, suc, ◌-◌, ◌≤◌, ◌⊎◌, inl, inr, Bool, true, false, cond, List, [], ◌∷◌, map, length, take, Some, None, Result, Ok, Err, refl, sym}
+use Rattle.std.proofs.Common.{◌≡◌, ℕ, suc, ◌-◌, ◌≤◌, ◌⊎◌, inl, inr, Bool, List, [], ◌∷◌, map, length, take, Some, None, Result, Ok, Err, refl, sym}
 use Rattle.std.proofs.Common.{◌∙◌, ap, subst, arith, ◌==◌, IfOk, IfErr, slice_index}
 use Rattle.std.specs.Prelude.{⊤}
 use Rattle.std.specs.List.{slice_split, onto_first}
 use Rattle.std.specs.Str.Lines.{lines, lines_of_parts}
-use Rattle.std.proofs.lemmas.List.{take-append-drop}
+use Rattle.std.proofs.lemmas.List.{take-append-drop, length-take}
+use Rattle.ci_yaml_lines.proofs.Forms.{either}
 use denote.Bor.{Bor}
 use Rattle.ci_yaml.specs.Prelude.{MAX_FILE_BYTES, Code, Y12, YamlFault, Tree, value_view, Value, Entry, State, start, finished, Line, Parses, HasTree}
 use Rattle.ci_yaml.specs.Prelude.{IsGood, IsFault, at_line, no_content, texts_of, Reader, read_lines, beginning, StopsAt, AreShort, Reads, RefusedBy, GivesTree}
@@ -27,41 +28,18 @@ onto-within : (n b : ℕ) (ls : List Line) → AreWithin n ls → AreWithin (suc
 onto-within n b [] h = (omega arith, tt)
 onto-within n b (l ∷ ls) h = (omega (arith, h.0), within-more n ls h.1)
 
-either-within : (t : Bool) (n : ℕ) (x y : List Line) → AreWithin n x → AreWithin n y → AreWithin n (cond t x y)
-either-within true n x y p q = p
-either-within false n x y p q = q
-
 split-within : (p : ℕ → Bool) (bs : List ℕ) → AreWithin (length bs) (slice_split p bs)
 split-within p [] = (omega arith, tt)
 split-within p (b ∷ bs) =
     let h : AreWithin (length bs) (slice_split p bs) = split-within p bs in
-    either-within (p b) (suc (length bs)) ([] ∷ slice_split p bs) (onto_first b (slice_split p bs)) (omega arith, within-more (length bs) (slice_split p bs) h) (onto-within (length bs) b (slice_split p bs) h)
-
-take-within : (n k : ℕ) (l : Line) → length l ≤ n → length (take k l) ≤ n
-take-within n zero l le = omega arith
-take-within n (suc k) [] le = le
-take-within n (suc k) (b ∷ l) le = by n le
-  where
-    shorter : (j : ℕ) (xs : Line) → length (take j xs) ≤ length xs
-    shorter zero xs = omega arith
-    shorter (suc j) [] = omega arith
-    shorter (suc j) (x ∷ xs) = let h : length (take j xs) ≤ length xs = shorter j xs in omega arith
-
-    by : (m : ℕ) → suc (length l) ≤ m → suc (length (take k l)) ≤ m
-    by m h = let s : length (take k l) ≤ length l = shorter k l in omega arith
-
-strip-by : (t : Bool) (n k : ℕ) (l : Line) → length l ≤ n → length (cond t (take k l) l) ≤ n
-strip-by true n k l le = take-within n k l le
-strip-by false n k l le = le
-
-last-by-length : (t : Bool) (n : ℕ) (l : Line) → length l ≤ n → AreWithin n (cond t [] (l ∷ []))
-last-by-length true n l le = tt
-last-by-length false n l le = (le, tt)
+    either (AreWithin (suc (length bs))) (p b) ([] ∷ slice_split p bs) (onto_first b (slice_split p bs)) (omega arith, within-more (length bs) (slice_split p bs) h) (onto-within (length bs) b (slice_split p bs) h)
 
 parts-within : (n : ℕ) (ps : List Line) → AreWithin n ps → AreWithin n (lines_of_parts ps)
 parts-within n [] h = tt
-parts-within n (l ∷ []) h = last-by-length (length l == 0) n l h.0
-parts-within n (l ∷ m ∷ ps) h = (strip-by (slice_index l (length l - 1) == 13) n (length l - 1) l h.0, parts-within n (m ∷ ps) h.1)
+parts-within n (l ∷ []) h = either (AreWithin n) (length l == 0) [] (l ∷ []) tt h
+parts-within n (l ∷ m ∷ ps) h =
+    let less : length (take (length l - 1) l) ≤ n = omega (arith, h.0, length-take (length l - 1) l) in
+    (either (λ (x : Line). length x ≤ n) (slice_index l (length l - 1) == 13) (take (length l - 1) l) l less h.0, parts-within n (m ∷ ps) h.1)
 
 short-within : (n : ℕ) (ls : List Line) → n ≤ MAX_FILE_BYTES → AreWithin n ls → AreShort ls
 short-within n [] le h = tt
@@ -70,15 +48,8 @@ short-within n (l ∷ ls) le h = (omega (arith, h.0), short-within n ls le h.1)
 lines-short : (bs : List ℕ) → length bs ≤ MAX_FILE_BYTES → AreShort (lines bs)
 lines-short bs le = short-within (length bs) (lines bs) le (parts-within (length bs) (slice_split (λ b. b == 10) bs) (split-within (λ b. b == 10) bs))
 
-texts-now : (xs : List (Bor (List ℕ))) → texts_of xs ≡ map (λ x. x.now) xs
-texts-now [] = refl
-texts-now (x ∷ xs) = ap (λ (ls : List Line). x.now ∷ ls) (texts-now xs)
-
-pub texts-are : (bs : List ℕ) (xs : List (Bor (List ℕ))) → map (λ x. x.now) xs ≡ lines bs → texts_of xs ≡ lines bs
-texts-are bs xs e = texts-now xs ∙ e
-
 pub texts-short : (bs : List ℕ) (xs : List (Bor (List ℕ))) → length bs ≤ MAX_FILE_BYTES → map (λ x. x.now) xs ≡ lines bs → AreShort (texts_of xs)
-texts-short bs xs le e = subst AreShort (sym (texts-are bs xs e)) (lines-short bs le)
+texts-short bs xs le e = subst AreShort (sym e) (lines-short bs le)
 
 -- ---- what a text has
 

@@ -3,9 +3,9 @@ use Rattle.std.proofs.Common.{◌≡◌, ℕ, zero, suc, pos, ◌+◌, ◌<◌, 
 use Rattle.std.specs.Prelude.{⊤}
 use Rattle.std.specs.Str.{bytes_eq}
 use Rattle.std.specs.Str.Lines.{lines}
-use Rattle.ci_yaml.specs.Prelude.{Kind, sequence, mapping, Value, null, boolean, number, text, node, Members, no_members, member, HaveNoNames, Entry, IsWithin, HasValue, here}
+use Rattle.ci_yaml.specs.Prelude.{Kind, Value, null, boolean, number, node, Members, no_members, member, HaveNoNames, Entry, IsWithin, HasValue, here}
 use Rattle.ci_yaml.specs.Prelude.{deeper, nothing, IsNode, AreMembers, IsDocument, of_node, drop_blanks, trim_end, head_is, tail_of, Quoted, quoted, is_quote, count_of}
-use Rattle.ci_yaml.specs.Prelude.{negative_of, number_or_text, plain_value, End, comma, bracket, missing, cut_place, plain_place, quoted_place, place, Listed, after_place, places}
+use Rattle.ci_yaml.specs.Prelude.{negative_of, number_or_text, plain_value, End, comma, cut_place, plain_place, quoted_place, place, Listed, after_place, places}
 use Rattle.ci_yaml.specs.Prelude.{listed, Written, parse_line, Line, literal, Ending, filled, Parses, none, HasTree, KeysDiffer, AllKeysDiffer, depth, members_depth, MAX_DEPTH}
 use Rattle.ci_yaml.specs.Node.{of_line}
 use Rattle.ci_yaml_lines.specs.Scalar.{number_of}
@@ -16,23 +16,13 @@ use Rattle.ci_yaml_lines.proofs.Forms.{either, OfForms, EachEntry, OfEntries, wr
 -- ---- a value on a line is a scalar, or a list of scalars
 
 abbrev IsScalar : Value → Type 0
-IsScalar null = ⊤
-IsScalar (boolean b) = ⊤
-IsScalar (number n) = ⊤
-IsScalar (text bs) = ⊤
-IsScalar (node kind ms) = ⊥
+IsScalar v = KeysDiffer v × (depth v ≡ 0)
 
 abbrev AreScalars : Members → Type 0
-AreScalars no_members = ⊤
-AreScalars (member name v ms) = (name ≡ []) × IsScalar v × AreScalars ms
+AreScalars ms = HaveNoNames ms × AllKeysDiffer ms × (members_depth ms ≡ 0)
 
 abbrev IsFlat : Value → Type 0
-IsFlat null = ⊤
-IsFlat (boolean b) = ⊤
-IsFlat (number n) = ⊤
-IsFlat (text bs) = ⊤
-IsFlat (node sequence ms) = AreScalars ms
-IsFlat (node mapping ms) = ⊥
+IsFlat v = KeysDiffer v × (depth v ≤ 1)
 
 abbrev GivenFlat : Option Value → Type 0
 GivenFlat None = ⊤
@@ -45,9 +35,8 @@ abbrev AllFlat : List Entry → Type 0
 AllFlat es = EachEntry EntryFlat es
 
 number-scalar : (m n : Option ℕ) (bs : List ℕ) → IsScalar (number_of m n bs)
-number-scalar (Some k) n bs = tt
-number-scalar None (Some k) bs = tt
-number-scalar None None bs = tt
+number-scalar None None bs = (tt, refl)
+number-scalar m n bs = (tt, refl)
 
 plain-scalar : (bs : List ℕ) → IsScalar (plain_value bs)
 plain-scalar bs =
@@ -55,21 +44,14 @@ plain-scalar bs =
     let zero_or : Value = cond (bytes_eq bs (codes "0")) (number (pos 0)) other in
     let null_or : Value = cond (bytes_eq bs (codes "null") || bytes_eq bs (codes "~")) null zero_or in
     let false_or : Value = cond (bytes_eq bs (codes "false")) (boolean false) null_or in
-    either IsScalar (bytes_eq bs (codes "true")) (boolean true) false_or tt
-    (either IsScalar (bytes_eq bs (codes "false")) (boolean false) null_or tt
-    (either IsScalar (bytes_eq bs (codes "null") || bytes_eq bs (codes "~")) null zero_or tt
-    (either IsScalar (bytes_eq bs (codes "0")) (number (pos 0)) other tt (number-scalar (count_of bs) (negative_of bs) bs))))
-
-scalar-flat : (v : Value) → IsScalar v → IsFlat v
-scalar-flat null h = tt
-scalar-flat (boolean b) h = tt
-scalar-flat (number n) h = tt
-scalar-flat (text bs) h = tt
-scalar-flat (node kind ms) h = absurd h
+    either IsScalar (bytes_eq bs (codes "true")) (boolean true) false_or (tt, refl)
+    (either IsScalar (bytes_eq bs (codes "false")) (boolean false) null_or (tt, refl)
+    (either IsScalar (bytes_eq bs (codes "null") || bytes_eq bs (codes "~")) null zero_or (tt, refl)
+    (either IsScalar (bytes_eq bs (codes "0")) (number (pos 0)) other (tt, refl) (number-scalar (count_of bs) (negative_of bs) bs))))
 
 quoted-scalar : (q : Option Quoted) → IsScalar (quoted_place q).value
-quoted-scalar None = tt
-quoted-scalar (Some q) = tt
+quoted-scalar None = (tt, refl)
+quoted-scalar q = (tt, refl)
 
 place-scalar : (bs : List ℕ) → IsScalar (place bs).value
 place-scalar bs =
@@ -78,29 +60,33 @@ place-scalar bs =
 
 after-scalars : (end : End) (more : List ℕ → Listed) → ((r : List ℕ) → AreScalars (more r).members) → AreScalars (after_place end more).members
 after-scalars (comma rest) more ih = ih rest
-after-scalars (bracket rest) more ih = tt
-after-scalars missing more ih = tt
+after-scalars end more ih = (tt, tt, refl)
 
 places-scalars : (n : ℕ) (bs : List ℕ) → AreScalars (places n bs).members
-places-scalars zero bs = tt
-places-scalars (suc n) bs = (refl, place-scalar bs, after-scalars (place bs).end (λ r. places n r) (λ r. places-scalars n r))
+places-scalars zero bs = (tt, tt, refl)
+places-scalars (suc n) bs =
+    let one = place-scalar bs in
+    let rest = after_place (place bs).end (λ r. places n r) in
+    let more = after-scalars (place bs).end (λ r. places n r) (λ r. places-scalars n r) in
+    let both : max (depth (place bs).value) (members_depth rest.members) ≡ 0 = rw (one.1, more.2) refl in
+    ((refl, more.0), (one.0, more.1), both)
 
 listed-scalars : (w : List ℕ) → AreScalars (listed w).members
 listed-scalars w =
     let bs : List ℕ = tail_of w in
     let empty : Listed = record { members = no_members; rest = Some (tail_of (drop_blanks bs)); codes = [] } in
-    either (λ (l : Listed). AreScalars l.members) (head_is 93 (drop_blanks bs)) empty (places (length w) bs) tt (places-scalars (length w) bs)
+    either (λ (l : Listed). AreScalars l.members) (head_is 93 (drop_blanks bs)) empty (places (length w) bs) (tt, tt, refl) (places-scalars (length w) bs)
 
 abbrev WrittenFlat : Written → Type 0
 WrittenFlat w = GivenFlat w.given
 
 forms-flat : OfForms WrittenFlat
 forms-flat = record {
-  in_quotes = λ q. tt;
-  unclosed = tt;
-  in_list = λ w. listed-scalars w;
-  in_block = λ how last bs. tt;
-  plain = λ raw. scalar-flat (plain_value (trim_end raw)) (plain-scalar (trim_end raw));
+  in_quotes = λ q. (tt, omega arith);
+  unclosed = (tt, omega arith);
+  in_list = λ w. let s = listed-scalars w in ((s.0, s.1), omega (arith, s.2));
+  in_block = λ how last bs. (tt, omega arith);
+  plain = λ raw. let s = plain-scalar (trim_end raw) in (s.0, omega (arith, s.1));
 }
 
 -- ---- the values of a line's entries
@@ -118,7 +104,7 @@ line-flat l = entry-each EntryFlat entries-flat l
 
 filled-flat : (es : List Entry) (t : List ℕ) → AllFlat es → AllFlat (filled es t)
 filled-flat [] t h = tt
-filled-flat (e ∷ []) t h = (tt, tt)
+filled-flat (e ∷ []) t h = ((tt, omega arith), tt)
 filled-flat (e ∷ f ∷ es) t h = (h.0, filled-flat (f ∷ es) t h.1)
 
 parses-flat : (ls : List Line) (es : List Entry) (end : Ending) → Parses ls es end → AllFlat es
@@ -126,7 +112,8 @@ parses-flat ls es end none = tt
 parses-flat ls es end (line l rest es' all end' clean no_header parses all-is) =
     subst AllFlat (sym all-is) (entries-join EntryFlat (parse_line l).entries es' (line-flat l) (parses-flat rest es' end' parses))
 parses-flat ls es end (block l lines rest below how es' all end' last clean header parts are ends parses all-is last-is) =
-    subst AllFlat (sym all-is) (entries-join EntryFlat (filled (parse_line l).entries (literal how lines)) es' (filled-flat (parse_line l).entries (literal how lines) (line-flat l)) (parses-flat rest es' end' parses))
+    let own : List Entry = (parse_line l).entries in
+    subst AllFlat (sym all-is) (entries-join EntryFlat (filled own (literal how lines)) es' (filled-flat own (literal how lines) (line-flat l)) (parses-flat rest es' end' parses))
 
 -- ---- the tree
 
@@ -139,28 +126,9 @@ record AllFit (ms : Members) (d : ℕ) : Type 0 where
   keys : AllKeysDiffer ms
   deep : d + members_depth ms ≤ suc MAX_DEPTH
 
-scalar-keys : (v : Value) → IsScalar v → KeysDiffer v × (depth v ≡ 0)
-scalar-keys null h = (tt, refl)
-scalar-keys (boolean b) h = (tt, refl)
-scalar-keys (number n) h = (tt, refl)
-scalar-keys (text bs) h = (tt, refl)
-scalar-keys (node kind ms) h = absurd h
-
-scalars-keys : (ms : Members) → AreScalars ms → HaveNoNames ms × AllKeysDiffer ms × (members_depth ms ≡ 0)
-scalars-keys no_members h = (tt, tt, refl)
-scalars-keys (member name v ms) h =
-    let one = scalar-keys v h.1 in
-    let more = scalars-keys ms h.2 in
-    let both : max (depth v) (members_depth ms) ≡ 0 = rw (one.1, more.2) refl in
-    ((h.0, more.0), (one.0, more.1), both)
-
 flat-fits : (v : Value) (d : ℕ) → IsFlat v → IsWithin d v → d ≤ suc MAX_DEPTH → Fits v d
-flat-fits null d h w le = record { keys = tt; deep = omega arith }
-flat-fits (boolean b) d h w le = record { keys = tt; deep = omega arith }
-flat-fits (number n) d h w le = record { keys = tt; deep = omega arith }
-flat-fits (text bs) d h w le = record { keys = tt; deep = omega arith }
-flat-fits (node mapping ms) d h w le = absurd h
-flat-fits (node sequence ms) d h w le = let s = scalars-keys ms h in record { keys = (s.0, s.1); deep = omega (arith, s.2) }
+flat-fits (node kind ms) d h w le = record { keys = h.0; deep = omega (arith, h.1) }
+flat-fits v d h w le = record { keys = tt; deep = omega arith }
 
 value-fits : (IsAt : ℕ → Type 0) (v : Value) (l d : ℕ) (given : Option Value) (below : List Entry) → ((m : ℕ) → IsAt m → Fits v (suc d))
     → GivenFlat given → d ≤ MAX_DEPTH → HasValue v given below ((m : ℕ) × (l < m) × IsAt m) (IsWithin (suc d) v) → Fits v (suc d)
@@ -170,13 +138,10 @@ value-fits IsAt v l d given below ih flat le (nothing g nil is) = subst (λ (x :
 
 mutual
   node-fits : (v : Value) (d l : ℕ) (es : List Entry) → IsNode v d l es → AllFlat es → Fits v d
-  node-fits null d l es h flat = absurd h
-  node-fits (boolean b) d l es h flat = absurd h
-  node-fits (number n) d l es h flat = absurd h
-  node-fits (text bs) d l es h flat = absurd h
   node-fits (node kind ms) d l es h flat =
       let m = members-fit ms kind d l es h.0 h.3 flat in
       record { keys = (h.2, m.keys); deep = omega (arith, m.deep) }
+  node-fits v d l es h flat = absurd h
 
   members-fit : (ms : Members) (kind : Kind) (d l : ℕ) (es : List Entry) → d ≤ MAX_DEPTH → AreMembers ms kind d l es → AllFlat es → AllFit ms (suc d)
   members-fit no_members kind d l es le h flat = record { keys = tt; deep = omega arith }
@@ -192,16 +157,7 @@ document-fits v es (of_node l le h) flat = let f = node-fits v 1 l es h flat in 
 document-fits v es (of_line e is head column given) flat =
     let one : AllFlat (e ∷ []) = subst AllFlat is flat in
     let own : IsFlat v = subst GivenFlat given one.0 in
-    let f = flat-fits v 1 own (flat-within v own) (omega arith) in
-    (f.keys, omega (arith, f.deep))
-  where
-    flat-within : (w : Value) → IsFlat w → IsWithin 1 w
-    flat-within null h = tt
-    flat-within (boolean b) h = tt
-    flat-within (number n) h = tt
-    flat-within (text bs) h = tt
-    flat-within (node sequence ms) h = omega arith
-    flat-within (node mapping ms) h = absurd h
+    (own.0, omega (arith, own.1))
 
 -- The tree of a text has keys that differ, and is at most ten deep.
 pub tree-fits : (bs : List ℕ) (v : Value) → HasTree bs v → KeysDiffer v × (depth v ≤ MAX_DEPTH)

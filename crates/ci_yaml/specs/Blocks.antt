@@ -1,5 +1,5 @@
 -- The lines of a literal block, as the code holds them.
-use Rattle.std.specs.Prelude.{◌≡◌, ℕ, true, Some, List, [], ◌∷◌, ◌++◌, if◌then◌else◌, drop, min}
+use Rattle.std.specs.Prelude.{◌≡◌, ℕ, true, Some, List, [], ◌∷◌, ◌++◌, if◌then◌else◌, drop, min, map}
 use denote.Bor.{Bor}
 use Rattle.ci_yaml_lines.specs.declared.code.Code.{Code}
 use Rattle.ci_yaml_lines.specs.Prelude.{least, spaces, Line}
@@ -7,8 +7,7 @@ use Rattle.ci_yaml.specs.Block.{is_spaces, is_in_block, block_codes}
 
 -- the texts that are lent
 abbrev pub texts_of : List (Bor (List ℕ)) → List Line
-texts_of [] = []
-texts_of (s ∷ ss) = s.now ∷ texts_of ss
+texts_of ss = map (λ s. s.now) ss
 
 -- a line's text without its first spaces, at most n of them; nothing, if it is all spaces
 abbrev pub cut_text : ℕ → Line → List ℕ

@@ -1,22 +1,18 @@
-use Rattle.std.proofs.Common.{◌∙◌, ap, sym, string_bytes, take}
-use Rattle.ci_yaml.specs.Prelude.{chomp_view, literal, texts_of}
+use Rattle.ci_yaml.specs.Prelude.{texts_of}
 use Rattle.ci_yaml.proofs.BlockLines.{texts-front}
-use Rattle.ci_yaml.proofs.Literals.{keep-text, clip-text, strip-text}
+use Rattle.ci_yaml.proofs.Literals.{keep-is, clip-is, strip-is_literal}
 use Rattle.ci_yaml.proofs.block.literal.Goals as goal
 
 pub returns-in_ok-push_lines-in-Keep : goal.returns-in_ok-push_lines-in-Keep
-returns-in_ok-push_lines-in-Keep c = λ column are.
-    keep-text c.block_indent-indent.result (texts_of c.args.lines.now) (string_bytes c.new-text.result) (string_bytes c.push_lines.new.text) c.new-text.ensures.bytes c.block_indent-indent.ensures c.in_ok-push_lines-in-Keep.ensures column are
-    ∙ ap (λ h. literal (chomp_view h) (texts_of c.args.lines.now)) (sym c.in-Keep.is)
+returns-in_ok-push_lines-in-Keep c =
+    λ column are. rw (c.in_ok-push_lines-in-Keep.ensures, c.new-text.ensures.bytes, c.block_indent-indent.ensures, c.in-Keep.is) (keep-is column (texts_of c.args.lines.now) are)
 
 pub returns-in_ok-push_lines-in-Clip : goal.returns-in_ok-push_lines-in-Clip
-returns-in_ok-push_lines-in-Clip c = λ column are.
-    clip-text c.block_indent-indent.result (texts_of c.args.lines.now) (texts_of (take c.kept_len.result c.args.lines.now)) (string_bytes c.new-text.result) (string_bytes c.push_lines-in-Clip.new.text) c.new-text.ensures.bytes c.block_indent-indent.ensures
-    (texts-front c.kept_len.result c.args.lines.now c.kept_len.ensures.value) c.in_ok-push_lines-in-Clip.ensures column are
-    ∙ ap (λ h. literal (chomp_view h) (texts_of c.args.lines.now)) (sym c.in-Clip.is)
+returns-in_ok-push_lines-in-Clip c =
+    λ column are. rw (c.in_ok-push_lines-in-Clip.ensures, c.new-text.ensures.bytes, c.block_indent-indent.ensures, c.in-Clip.is, texts-front c.kept_len.result c.args.lines.now c.kept_len.ensures.value)
+    (clip-is column (texts_of c.args.lines.now) are)
 
 pub returns-in_ok-push_stripped-in-Strip : goal.returns-in_ok-push_stripped-in-Strip
-returns-in_ok-push_stripped-in-Strip c = λ column are.
-    strip-text c.block_indent-indent.result (texts_of c.args.lines.now) (texts_of (take c.kept_len.result c.args.lines.now)) (string_bytes c.new-text.result) (string_bytes c.push_stripped.new.text) c.new-text.ensures.bytes c.block_indent-indent.ensures
-    (texts-front c.kept_len.result c.args.lines.now c.kept_len.ensures.value) c.in_ok-push_stripped-in-Strip.ensures column are
-    ∙ ap (λ h. literal (chomp_view h) (texts_of c.args.lines.now)) (sym c.in-Strip.is)
+returns-in_ok-push_stripped-in-Strip c =
+    λ column are. rw (c.in_ok-push_stripped-in-Strip.ensures, c.new-text.ensures.bytes, c.block_indent-indent.ensures, c.in-Strip.is, texts-front c.kept_len.result c.args.lines.now c.kept_len.ensures.value)
+    (strip-is_literal column (texts_of c.args.lines.now) are)
