@@ -112,7 +112,8 @@ texts-more xs i d l lt is = ap texts_of (take_more xs i d lt) ∙ texts-push (ta
 
 pub indent-more : (xs : List (Bor (List ℕ))) (i : ℕ) (d : Bor (List ℕ)) (l : Line) (o p : Option ℕ) → i < length xs → l ≡ (get_or xs i d).now → o ≡ first_indent (texts_of (take i xs)) → p ≡ more_indent o l → p ≡ first_indent (texts_of (take (i + 1) xs))
 indent-more xs i d l o p lt is o-is p-is =
-    p-is ∙ ap (λ x. more_indent x l) o-is ∙ sym (first-append (texts_of (take i xs)) (l ∷ []) ∙ more-is (first_indent (texts_of (take i xs))) l) ∙ ap first_indent (sym (texts-more xs i d l lt is))
+    p-is ∙ ap (λ x. more_indent x l) o-is ∙ sym (first-append (texts_of (take i xs)) (l ∷ []) ∙ more-is (first_indent (texts_of (take i xs))) l) ∙ ap first_indent
+    (sym (texts-more xs i d l lt is))
 
 pub are-push : (c : ℕ) (before ls : List Line) (l : Line) → AreBlock c before ls → is_in_block c l ≡ true → block_codes (before ++ ls) l ≡ [] → AreBlock c before (ls ++ l ∷ [])
 are-push c before [] l are inside_it clean = (inside_it, subst (λ (b : List Line). block_codes b l ≡ []) (append-nil before) clean, tt)

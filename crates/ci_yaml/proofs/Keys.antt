@@ -28,7 +28,8 @@ pub keys-more : {Y : Type 0} (s n : BTreeSet (String Y)) (ps : List (Text × Tre
     → (k : List ℕ) → contains_text n k ≡ has_name k (pairs_view (ps ++ (key, v) ∷ []))
 keys-more s n ps key v name is up same k =
     btree_set_updates_text (string_bytes name) s n true up k
-    ∙ rw (is, either_way (bytes_of key) k, same k, pairs-push ps key v, has-push k (pairs_view ps) (bytes_of key) (value_view v)) (by (bytes_eq k (bytes_of key)) (has_name k (pairs_view ps)))
+    ∙ rw (is, either_way (bytes_of key) k, same k, pairs-push ps key v, has-push k (pairs_view ps) (bytes_of key) (value_view v))
+    (by (bytes_eq k (bytes_of key)) (has_name k (pairs_view ps)))
   where
     by : (a b : Bool) → cond a true b ≡ (b || a)
     by a b = grind arith

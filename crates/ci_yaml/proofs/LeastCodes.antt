@@ -66,8 +66,11 @@ least-is (x ∷ y ∷ cs) c e =
           let same : number_of x ≡ number_of c = ap number_of (sym p.0 ∙ some_is _ c e) in
           ((0, omega arith, sym p.0 ∙ some_is _ c e), All-cons (AtLeast c) x (y ∷ cs) (omega arith) (λ k d lt. omega (arith, more.1 k d lt)))
       | inr p ↦
-          let same : number_of z ≡ number_of c = ap number_of (sym p.0 ∙ some_is _ c e) in
-          (Contains-append_right (x ∷ []) (y ∷ cs) c (subst (Contains (y ∷ cs)) (sym p.0 ∙ some_is _ c e) more.0), All-cons (AtLeast c) x (y ∷ cs) (omega arith) (λ k d lt. omega (arith, more.1 k d lt)))
+          let same : number_of z ≡ number_of c = ap number_of (sym p.0 ∙ some_is _ c e) in (
+            Contains-append_right (x ∷ []) (y ∷ cs) c (subst (Contains (y ∷ cs)) (sym p.0 ∙ some_is _ c e) more.0),
+            All-cons (AtLeast c) x (y ∷ cs) (omega arith)
+                (λ k d lt. omega (arith, more.1 k d lt)),
+          )
     ]
 
 -- ---- an entry without dash and key has a value
@@ -105,7 +108,8 @@ codes-held before es end l code parses (of_place fs end' parses' out has) =
     let same = parses-same before es fs end end' parses parses' in
     rw (same.0, same.1, codes-outside fs end' l out) (Contains-append_left (place_codes fs (parse_line l).entries) (parse_line l).codes code has)
 
-own-hold : (before : List Line) (es : List Entry) (end : Ending) (l : Line) (code : Code) → Parses before es end → IsOutside end l → Contains (own_codes es l) code → Holds before l code
+own-hold : (before : List Line) (es : List Entry) (end : Ending) (l : Line) (code : Code) → Parses before es end → IsOutside end l → Contains (own_codes es l) code
+    → Holds before l code
 own-hold before es end l code parses out has = elim (Contains-append_cases (place_codes es (parse_line l).entries) (parse_line l).codes code has) [
   | inl p ↦ of_place es end parses out p
   | inr p ↦ of_line es end parses out p
@@ -141,7 +145,8 @@ line-code : (st : State) (es : List Entry) (end : Ending) (l : Line) → StateSt
 line-code st es outside l h = content-code st es l h
 line-code st es (within how c so_far) l h = by (is_in_block c l)
   where
-    by : (b : Bool) → fault_of (cond b (stop_or (least (block_codes so_far l)) (record { state = with_text (literal how (so_far ++ l ∷ [])) st; end = within how c (so_far ++ l ∷ []) })) (content st (parse_line l)))
+    by : (b : Bool)
+        → fault_of (cond b (stop_or (least (block_codes so_far l)) (record { state = with_text (literal how (so_far ++ l ∷ [])) st; end = within how c (so_far ++ l ∷ []) })) (content st (parse_line l)))
         ≡ least (cond b (block_codes so_far l) (own_codes es l))
     by true = stop-code (least (block_codes so_far l)) _
     by false = content-code st es l h

@@ -118,7 +118,8 @@ same-mapped t (Ok u) s e is = let same : u ≡ s = cc in let e' : u ≡ with_tex
 same-mapped t (Err c) s e is = absurd cc
 
 -- before its block a header's entry holds the text of no lines
-pub header-holds : (st : State) (l : Line) (how : Chomp) (s : State) → (parse_line l).header ≡ Some how → run st (filled (parse_line l).entries (literal how [])) ≡ Ok s → s ≡ with_text (literal how []) s
+pub header-holds : (st : State) (l : Line) (how : Chomp) (s : State) → (parse_line l).header ≡ Some how → run st (filled (parse_line l).entries (literal how [])) ≡ Ok s
+    → s ≡ with_text (literal how []) s
 header-holds st l how s is ran =
     let t : List ℕ = literal how [] in
     same-mapped t (run st (filled (parse_line l).entries t)) s (run-filled st (parse_line l).entries t t (header-fits l how is)) ran

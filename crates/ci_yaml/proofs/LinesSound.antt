@@ -61,10 +61,8 @@ filled-not_empty (e ∷ []) t h = tt
 filled-not_empty (e ∷ f ∷ es) t h = tt
 
 filled-twice : (es : List Entry) (t u : List ℕ) → filled (filled es t) u ≡ filled es u
-filled-twice [] t u = refl
-filled-twice (e ∷ []) t u = refl
-filled-twice (e ∷ f ∷ []) t u = refl
 filled-twice (e ∷ f ∷ g ∷ es) t u = ap (λ (x : List Entry). e ∷ x) (filled-twice (f ∷ g ∷ es) t u)
+filled-twice es t u = refl
 
 append-not_empty : (a b : List Entry) → NotEmpty b → NotEmpty (a ++ b)
 append-not_empty [] b h = h

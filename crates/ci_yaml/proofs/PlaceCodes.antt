@@ -126,7 +126,8 @@ fits-code : (e : Entry) (es : List Entry) (kind : Kind) (name : List ℕ) (r : B
     → repeats_kind kind name (level_of kind e.column) es ≡ r → opens_above (level_of kind e.column) es ≡ n
     → least (codes_at es e) ≡ cond r (Some Y5) (cond (deep_at n (is_node e.given)) (Some Y10) None)
 fits-code e es kind name r n head stands q count =
-    code-by e es kind name true r (deep_at n (is_node e.given)) head (by _ _ stands) q (ap (λ m. deep_at m (is_node e.given)) count) ∙ fitting (column_open e.column es) r (deep_at n (is_node e.given))
+    code-by e es kind name true r (deep_at n (is_node e.given)) head (by _ _ stands) q (ap (λ m. deep_at m (is_node e.given)) count) ∙ fitting (column_open e.column es) r
+    (deep_at n (is_node e.given))
   where
     by : (a b : Bool) → b ≡ true → (a || b) ≡ true
     by a b p = grind arith
@@ -174,7 +175,8 @@ joined-code fs given kind name e es h head free has =
     let done : Members = push t.frame.done t.frame.name t.value in
     let new : Frame = record t.frame { done = done; name = name } in
     rw (sym (awaited-is l fs given es h) ∙ free, t.is, eq-eqb (level t.frame) l t.at)
-    (fault-cond (is_repeated kind name done) (Err Y5) (with_given (new ∷ t.outer) e.given) ∙ ap (cond (is_repeated kind name done) (Some Y5)) (with_given-code (new ∷ t.outer) (length t.outer) e.given refl t.room))
+    (fault-cond (is_repeated kind name done) (Err Y5) (with_given (new ∷ t.outer) e.given) ∙ ap (cond (is_repeated kind name done) (Some Y5))
+    (with_given-code (new ∷ t.outer) (length t.outer) e.given refl t.room))
     ∙ sym (fits-code e es kind name (is_repeated kind name done) (length t.outer) head (rw (free, has) refl)
     (top-repeats kind name e.column fs given es (value_of given) h t) (above-is l fs given es h ∙ t.above))
 
@@ -186,7 +188,8 @@ not-empty (f ∷ fs) given es lt h = ap is_empty h.3 ∙ behind h.0 (h.1 ++ h.2 
     behind [] b some = some
     behind (x ∷ a) b some = refl
 
-place-by : (fs : List Frame) (given : Option Value) (kind : Kind) (name : List ℕ) (e : Entry) (es : List Entry) (a o : Bool) → 0 < length fs → Stands fs given es → e.head ≡ head_of kind name
+place-by : (fs : List Frame) (given : Option Value) (kind : Kind) (name : List ℕ) (e : Entry) (es : List Entry) (a o : Bool) → 0 < length fs → Stands fs given es
+    → e.head ≡ head_of kind name
     → awaited (level_of kind e.column) es ≡ a → level_open (level_of kind e.column) es ≡ o → fault_of (entered fs given kind name e) ≡ least (codes_at es e)
 place-by fs given kind name e es true o lt h head is_awaited is_open = awaited-code fs given kind name e es h head is_awaited
 place-by fs given kind name e es false true lt h head is_awaited is_open = joined-code fs given kind name e es h head is_awaited is_open
@@ -228,7 +231,8 @@ after-code kind name e w v head is given =
     alone-column : (x : Entry) (c : ℕ) → x.head ≡ bare → column_open c (x ∷ []) ≡ false
     alone-column x c e' = rw e' refl
 
-member-code : (st : State) (kind : Kind) (name : List ℕ) (e : Entry) (es : List Entry) → StateStands st es → e.head ≡ head_of kind name → fault_of (member_next st e kind name) ≡ least (codes_at es e)
+member-code : (st : State) (kind : Kind) (name : List ℕ) (e : Entry) (es : List Entry) → StateStands st es → e.head ≡ head_of kind name
+    → fault_of (member_next st e kind name) ≡ least (codes_at es e)
 member-code start kind name e es h head = first-code kind name e (e.column == 0) head refl ∙ ap (λ x. least (codes_at x e)) (sym h)
 member-code (whole v) kind name e es h head = after-code kind name e h.0 v head h.2 h.4 ∙ ap (λ x. least (codes_at x e)) (sym h.1)
 member-code (inside fs given) kind name e es h head =
@@ -242,7 +246,8 @@ HasGiven head given = ⊤
 abbrev pub AllGiven : List Entry → Type 0
 AllGiven es = EachEntry (λ e. HasGiven e.head e.given) es
 
-bare-code : (e : Entry) (es : List Entry) (f : Bool) → e.head ≡ bare → (is_empty es && (e.column == 0)) ≡ f → least (codes_at es e) ≡ place_by f (column_open e.column es) false false
+bare-code : (e : Entry) (es : List Entry) (f : Bool) → e.head ≡ bare → (is_empty es && (e.column == 0)) ≡ f
+    → least (codes_at es e) ≡ place_by f (column_open e.column es) false false
 bare-code e es f head is = rw (head, is) (by f (column_open e.column es))
   where
     by : (t o : Bool) → place_by (t || false) o false false ≡ place_by t o false false

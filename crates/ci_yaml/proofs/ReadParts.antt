@@ -36,7 +36,8 @@ pub part-read : (xs : List (Bor (List ℕ))) (at : ℕ) (d : Bor (List ℕ)) (st
 part-read xs at d st s end ts us lt h said follow exact =
     record { before = h; parts = part-at xs at d lt; said = said; follow = rw one at follow; exact = exact ∙ ap (λ n. spans_of ts ++ line_spans n (get_or xs at d).now) (one at) }
 
-pub part-more : (xs : List (Bor (List ℕ))) (at : ℕ) (d : Bor (List ℕ)) (st s : State) (b : Option (Chomp × ℕ)) (ts us : List Text) → PartRead xs at d st s (below_view b) ts us → b ≡ None
+pub part-more : (xs : List (Bor (List ℕ))) (at : ℕ) (d : Bor (List ℕ)) (st s : State) (b : Option (Chomp × ℕ)) (ts us : List Text) → PartRead xs at d st s (below_view b) ts us
+    → b ≡ None
     → Read (texts_of xs) (at + 1) s us
 part-more xs at d st s b ts us h is = rw one (line-more (subst (λ x. PartRead xs at d st s (below_view x) ts us) is h))
 
@@ -47,7 +48,8 @@ part-fails xs at d st (YamlFault.Fault code n) lt h f =
     rw (f.1, one) (line-stops (texts_of xs) (texts_of (drop (at + 1) xs)) at (get_or xs at d).now st code h (part-at xs at d lt) f.0)
 
 -- a block that the code found behind the line
-block-open : (xs ys : List (Bor (List ℕ))) (at : ℕ) (d : Bor (List ℕ)) (st s : State) (b : Option (Chomp × ℕ)) (how : Chomp) (c : ℕ) (ts us : List Text) → PartRead xs at d st s (below_view b) ts us
+block-open : (xs ys : List (Bor (List ℕ))) (at : ℕ) (d : Bor (List ℕ)) (st s : State) (b : Option (Chomp × ℕ)) (how : Chomp) (c : ℕ) (ts us : List Text)
+    → PartRead xs at d st s (below_view b) ts us
     → b ≡ Some (how, c) → ys ≡ drop (at + 1) xs → ReadLine (texts_of xs) at (get_or xs at d).now (texts_of ys) st s (within (chomp_view how) c []) ts us
 block-open xs ys at d st s b how c ts us h is ys-is = rw ys-is (subst (λ x. PartRead xs at d st s (below_view x) ts us) is h)
 
@@ -60,7 +62,8 @@ part-block xs ys at k d st s r b how c t ts us vs h is ys-is le found own bytes 
     let size : length (texts_of (take k ys)) ≡ k = length-texts (take k ys) ∙ length-take-le k ys le in
     let text : IsText c (suc at) (chomp_view how) (texts_of (take k ys)) (texts_of (drop k ys)) t =
     record { are = found.0; ends = found.1; own = own; bytes = bytes; span = span ∙ rw (one, size) refl } in
-    rw (r-is, one) (block-more k t vs (block-open xs ys at d st s b how c ts us h is ys-is) (omega (arith, length-texts ys)) (rw (← texts-take k ys, ← texts-drop k ys) text) fills ending)
+    rw (r-is, one) (block-more k t vs (block-open xs ys at d st s b how c ts us h is ys-is) (omega (arith, length-texts ys))
+    (rw (← texts-take k ys, ← texts-drop k ys) text) fills ending)
 
 pub part-block_fails : (xs ys : List (Bor (List ℕ))) (at : ℕ) (d : Bor (List ℕ)) (st s : State) (b : Option (Chomp × ℕ)) (how : Chomp) (c : ℕ) (f : YamlFault) (ts us : List Text)
     → PartRead xs at d st s (below_view b) ts us → b ≡ Some (how, c) → ys ≡ drop (at + 1) xs → BlockFails c (at + 1) ys f → StopsBy (texts_of xs) f

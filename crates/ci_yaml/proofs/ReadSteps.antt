@@ -79,7 +79,8 @@ line-read : {ls rest : List Line} {at : ℕ} {l : Line} {st s : State} {end : En
     → read_lines beginning (take (suc at) ls) ≡ Ok (record { state = s; end = end })
 line-read {ls} {rest} {at} {l} {st} h =
     let one : line_by h.before.read.end st l ≡ content st (parse_line l) = outside-line h.before.read.end st l (drop at ls) rest h.parts h.before.read.next in
-    rw ((next-line at ls rest l h.parts).0, read-append beginning (take at ls) (l ∷ []), h.before.read.read) (ap (λ (x : Result Reader Code). x >>= λ t. read_lines t []) (one ∙ h.said))
+    rw ((next-line at ls rest l h.parts).0, read-append beginning (take at ls) (l ∷ []), h.before.read.read)
+    (ap (λ (x : Result Reader Code). x >>= λ t. read_lines t []) (one ∙ h.said))
 
 line-texts : {ls rest : List Line} {at : ℕ} {l : Line} {st s : State} {end : Ending} {ts us : List Text} → ReadLine ls at l rest st s end ts us → Lines ls 0 (take (suc at) ls) us
 line-texts {ls} {rest} {at} {l} {ts = ts} h =
@@ -91,13 +92,15 @@ line-texts {ls} {rest} {at} {l} {ts = ts} h =
 pub line-more : {ls rest : List Line} {at : ℕ} {l : Line} {st s : State} {ts us : List Text} → ReadLine ls at l rest st s outside ts us → Read ls (suc at) s us
 line-more {ls} {rest} {at} {l} {st} {s} {ts} h =
     let own : List Span = line_spans (suc at) l in
-    let header : (parse_line l).header ≡ None = said-none (parse_line l).header (last_column (parse_line l).entries) (content-said st l (record { state = s; end = outside }) h.said).end in
+    let header : (parse_line l).header ≡ None =
+    said-none (parse_line l).header (last_column (parse_line l).entries) (content-said st l (record { state = s; end = outside }) h.said).end in
     record {
       read = record { end = outside; read = line-read h; next = starts-anywhere (drop (suc at) ls) };
       texts = line-texts h;
       exact = λ more behind.
           rw (h.exact, append_assoc (spans_of ts) own more)
-          (h.before.exact (own ++ more) (rw h.parts (spans.line at l rest more (own ++ more) header (subst (λ (x : List Line). HaveSpans (suc at) x more) (next-line at ls rest l h.parts).1 behind) refl)));
+          (h.before.exact (own ++ more) (rw h.parts (spans.line at l rest more (own ++ more) header
+          (subst (λ (x : List Line). HaveSpans (suc at) x more) (next-line at ls rest l h.parts).1 behind) refl)));
     }
 
 stop-here : (ls after : List Line) (n : ℕ) (l : Line) (r : Reader) (code : Code) → read_lines beginning (take n ls) ≡ Ok r → drop n ls ≡ l ∷ after → line_next r l ≡ Err code → StopsAt ls (suc n) code
@@ -129,7 +132,8 @@ pub record IsText (c n : ℕ) (how : Chomp) (block rest : List Line) (t : Text) 
 abbrev Header : Line → Chomp → ℕ → Type 0
 Header l how c = ((parse_line l).header ≡ Some how) × (c ≡ last_column (parse_line l).entries)
 
-header-is : (st s : State) (l : Line) (how : Chomp) (c : ℕ) → content st (parse_line l) ≡ Ok (record { state = s; end = within how c [] }) → Header l how c × (s ≡ with_text (literal how []) s)
+header-is : (st s : State) (l : Line) (how : Chomp) (c : ℕ) → content st (parse_line l) ≡ Ok (record { state = s; end = within how c [] })
+    → Header l how c × (s ≡ with_text (literal how []) s)
 header-is st s l how c e =
     let own : List Entry = (parse_line l).entries in
     let said = content-said st l (record { state = s; end = within how c [] }) e in
@@ -157,10 +161,13 @@ block-texts ls n k block how t us vs size front at own bytes span h (no_text is)
 block-texts ls n k block how t us vs size front at own bytes span h (last_text before behind parts is) =
     let e : n ≡ 0 + length (take n ls) = omega (arith, size) in
     let one : Lines ls n block (t ∷ []) = lines.block n block block [] how t [] (sym (append-nil block)) at own bytes span (lines.none (n + length block) []) in
-    rw (is, front) (lines-append ls 0 (take n ls) block before (t ∷ []) (lines-front ls 0 (take n ls) before behind (subst (Lines ls 0 (take n ls)) parts h)) (subst (λ (m : ℕ). Lines ls m block (t ∷ [])) e one))
+    rw (is, front) (lines-append ls 0 (take n ls) block before (t ∷ []) (lines-front ls 0 (take n ls) before behind (subst (Lines ls 0 (take n ls)) parts h))
+    (subst (λ (m : ℕ). Lines ls m block (t ∷ [])) e one))
 
-pub block-more : {ls rest : List Line} {at : ℕ} {l : Line} {st s : State} {how : Chomp} {c : ℕ} {ts us : List Text} (k : ℕ) (t : Text) (vs : List Text) → ReadLine ls at l rest st s (within how c []) ts us
-    → k ≤ length rest → IsText c (suc at) how (take k rest) (drop k rest) t → Ends t us vs → ((words : List ℕ) → s ≡ with_text words s → spans_of vs ≡ with_last t.span (spans_of us))
+pub block-more : {ls rest : List Line} {at : ℕ} {l : Line} {st s : State} {how : Chomp} {c : ℕ} {ts us : List Text} (k : ℕ) (t : Text) (vs : List Text)
+    → ReadLine ls at l rest st s (within how c []) ts us
+    → k ≤ length rest → IsText c (suc at) how (take k rest) (drop k rest) t → Ends t us vs
+    → ((words : List ℕ) → s ≡ with_text words s → spans_of vs ≡ with_last t.span (spans_of us))
     → Read ls (suc at + k) (with_text (bytes_of t) s) vs
 block-more {ls} {rest} {at} {l} {st} {s} {how} {c} {ts} {us} k t vs h le b fills ending =
     let lines-of : List Line = take k rest in
@@ -171,7 +178,8 @@ block-more {ls} {rest} {at} {l} {st} {s} {how} {c} {ts} {us} k t vs h le b fills
     let ends : EndsBlock (last_column (parse_line l).entries) (drop k rest) = subst (λ (m : ℕ). EndsBlock m (drop k rest)) head.0.1 b.ends in
     let own : List Span = with_last (block_span (suc at) lines-of) (line_spans (suc at) l) in
     let ending-is : spans_of vs ≡ spans_of ts ++ own =
-    ending (literal how []) head.1 ∙ rw (b.span, h.exact) (last-behind (block_span (suc at) lines-of) (spans_of ts) (line_spans (suc at) l) (header-some (suc at) l how head.0.0)) in
+    ending (literal how []) head.1 ∙ rw (b.span, h.exact) (last-behind (block_span (suc at) lines-of) (spans_of ts) (line_spans (suc at) l)
+    (header-some (suc at) l how head.0.0)) in
     record {
       read = record {
         end = within how c lines-of;
@@ -192,15 +200,18 @@ block-more {ls} {rest} {at} {l} {st} {s} {how} {c} {ts} {us} k t vs h le b fills
       exact = λ more goes.
           rw (ending-is, append_assoc (spans_of ts) own more)
           (h.before.exact (own ++ more) (rw h.parts (spans.block at l lines-of (drop k rest) rest how more (own ++ more) head.0.0 (sym (take-append-drop k rest)) are ends
-          (subst (λ (m : ℕ). HaveSpans (suc at + m) (drop k rest) more) (sym (length-take-le k rest le)) (subst (λ (x : List Line). HaveSpans (suc at + k) x more) past.1 goes)) refl)));
+          (subst (λ (m : ℕ). HaveSpans (suc at + m) (drop k rest) more) (sym (length-take-le k rest le))
+          (subst (λ (x : List Line). HaveSpans (suc at + k) x more) past.1 goes)) refl)));
     }
 
-stops-by : (ls : List Line) (n c : ℕ) (how : Chomp) (block tail : List Line) (s : State) (code : Code) → read_lines beginning (take n ls) ≡ Ok (record { state = s; end = within how c block }) → drop n ls ≡ tail
+stops-by : (ls : List Line) (n c : ℕ) (how : Chomp) (block tail : List Line) (s : State) (code : Code)
+    → read_lines beginning (take n ls) ≡ Ok (record { state = s; end = within how c block }) → drop n ls ≡ tail
     → StopsBlock c block tail code → StopsAt ls (suc n) code
 stops-by ls n c how block [] s code read e stop = absurd stop
 stops-by ls n c how block (l ∷ after) s code read e stop = stop-here ls after n l (record { state = s; end = within how c block }) code read e (rw (stop.0, stop.1) refl)
 
-pub block-stops : {ls rest : List Line} {at : ℕ} {l : Line} {st s : State} {how : Chomp} {c : ℕ} {ts us : List Text} (k : ℕ) (code : Code) → ReadLine ls at l rest st s (within how c []) ts us
+pub block-stops : {ls rest : List Line} {at : ℕ} {l : Line} {st s : State} {how : Chomp} {c : ℕ} {ts us : List Text} (k : ℕ) (code : Code)
+    → ReadLine ls at l rest st s (within how c []) ts us
     → AreBlock c [] (take k rest) → StopsBlock c (take k rest) (drop k rest) code → StopsAt ls (suc (suc at + k)) code
 block-stops {ls} {rest} {at} {l} {s = s} {how} {c} k code h are stop =
     stops-by ls (suc at + k) c how (take k rest) (drop k rest) (with_text (literal how (take k rest)) s) code (block-lines k h are) (behind ls rest at k l h.parts).1 stop

@@ -32,7 +32,8 @@ split-within : (p : ℕ → Bool) (bs : List ℕ) → AreWithin (length bs) (sli
 split-within p [] = (omega arith, tt)
 split-within p (b ∷ bs) =
     let h : AreWithin (length bs) (slice_split p bs) = split-within p bs in
-    either (AreWithin (suc (length bs))) (p b) ([] ∷ slice_split p bs) (onto_first b (slice_split p bs)) (omega arith, within-more (length bs) (slice_split p bs) h) (onto-within (length bs) b (slice_split p bs) h)
+    either (AreWithin (suc (length bs))) (p b) ([] ∷ slice_split p bs) (onto_first b (slice_split p bs)) (omega arith, within-more (length bs) (slice_split p bs) h)
+    (onto-within (length bs) b (slice_split p bs) h)
 
 parts-within : (n : ℕ) (ps : List Line) → AreWithin n ps → AreWithin n (lines_of_parts ps)
 parts-within n [] h = tt

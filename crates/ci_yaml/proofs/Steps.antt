@@ -66,7 +66,8 @@ abbrev frame_at : ℕ → Open → Frame
 frame_at column members = record { column = column; members = members }
 
 -- no member of this kind joins in this column
-pub none-joins : (kind : Kind) (column : ℕ) (old init : List Frame) (f : Frame) → old ≡ init ++ f ∷ [] → (open_kind f.members ≡ kind → f.column ≡ column → ⊥) → NoneJoins kind column (frames_view old)
+pub none-joins : (kind : Kind) (column : ℕ) (old init : List Frame) (f : Frame) → old ≡ init ++ f ∷ [] → (open_kind f.members ≡ kind → f.column ≡ column → ⊥)
+    → NoneJoins kind column (frames_view old)
 none-joins kind column old init f parts ne = λ m v name e at.
     let other : (level (frame_view f) == level_of kind e.column) ≡ false =
     ne_eqb (level (frame_view f)) (level_of kind e.column) (λ h. let s = same_level (open_kind f.members) kind f.column e.column h in ne s.0 (s.1 ∙ at)) in
@@ -83,13 +84,23 @@ pub item-joins : (m : Code) (old init new : List Frame) (items more : Vec Tree) 
 item-joins m old init new items more column v g parts pushed new-is =
     rw (new-is, frames-push init (frame_at column (Items more)), pushed) (sym (step-same m old init (Items items) v [] (entry_at column dash g) parts))
 
-pub pair-joins : (m : Code) (old init new : List Frame) (pairs more : OpenMap) (last name : Text) (column : ℕ) (v : Value) (g : Option Value) → old ≡ init ++ frame_at column (Pairs pairs last) ∷ []
-    → pairs_view more.pairs.items ≡ push (pairs_view pairs.pairs.items) (bytes_of last) v → has_name (bytes_of name) (pairs_view more.pairs.items) ≡ false → new ≡ init ++ frame_at column (Pairs more name) ∷ []
+pub pair-joins : (m : Code) (old init new : List Frame) (pairs more : OpenMap) (last name : Text) (column : ℕ) (v : Value) (g : Option Value)
+    → old ≡ init ++ frame_at column (Pairs pairs last) ∷ []
+    → pairs_view more.pairs.items ≡ push (pairs_view pairs.pairs.items) (bytes_of last) v
+    → has_name (bytes_of name) (pairs_view more.pairs.items) ≡ false → new ≡ init ++ frame_at column (Pairs more name) ∷ []
     → with_given (frames_view new) g ≡ joined m (frames_view old) v mapping (bytes_of name) (entry_at column (key (bytes_of name)) g)
 pair-joins m old init new pairs more last name column v g parts pushed fresh new-is =
-    rw (new-is, frames-push init (frame_at column (Pairs more name)), pushed, step-same m old init (Pairs pairs last) v (bytes_of name) (entry_at column (key (bytes_of name)) g) parts, rw pushed at fresh) refl
+    rw (
+      new-is,
+      frames-push init (frame_at column (Pairs more name)),
+      pushed,
+      step-same m old init (Pairs pairs last) v (bytes_of name)
+          (entry_at column (key (bytes_of name)) g) parts,
+      rw pushed at fresh,
+    ) refl
 
-pub pair-repeats : (m : Code) (old init : List Frame) (pairs more : OpenMap) (last name : Text) (column : ℕ) (v : Value) (g : Option Value) → old ≡ init ++ frame_at column (Pairs pairs last) ∷ []
+pub pair-repeats : (m : Code) (old init : List Frame) (pairs more : OpenMap) (last name : Text) (column : ℕ) (v : Value) (g : Option Value)
+    → old ≡ init ++ frame_at column (Pairs pairs last) ∷ []
     → pairs_view more.pairs.items ≡ push (pairs_view pairs.pairs.items) (bytes_of last) v → has_name (bytes_of name) (pairs_view more.pairs.items) ≡ true
     → joined m (frames_view old) v mapping (bytes_of name) (entry_at column (key (bytes_of name)) g) ≡ Err Y5
 pair-repeats m old init pairs more last name column v g parts pushed there =

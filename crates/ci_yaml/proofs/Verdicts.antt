@@ -2,9 +2,10 @@
 use Rattle.std.proofs.Common.{◌≡◌, ℕ, suc, ◌<◌, ◌≤◌, ◌⊎◌, inl, inr, List, [], ◌∷◌, ◌++◌, length, take, Option, Some, None, Result, Ok, Err, refl, sym, ◌∙◌, ap, subst, arith}
 use Rattle.std.proofs.Common.{append_assoc, ◌-◌, get_or, IfOk, IfErr}
 use Rattle.std.specs.Str.Lines.{lines}
-use Rattle.std.proofs.lemmas.Bool.{cases_lt}
+use Rattle.std.proofs.lemmas.Bool.{cases_lt, cases_order}
+use Rattle.std.proofs.lemmas.List.{length-append, take-append-le, take_at}
 use Rattle.ci_yaml.specs.Prelude.{MAX_FILE_BYTES, Code, Y1, Y2, Y3, Y4, Y5, Y6, Y7, Y8, Y9, Y10, Y11, Y12, Value, node, Entry, IsNode, IsDocument}
-use Rattle.ci_yaml.specs.Prelude.{of_node, finished, Line, Holds, HasTree, IsGood, has_tree, skipped, IsFault, too_long, at_line, no_content, Reader, read_lines, beginning}
+use Rattle.ci_yaml.specs.Prelude.{of_node, finished, Line, HasTree, IsGood, has_tree, skipped, IsFault, too_long, at_line, no_content, Reader, read_lines, beginning}
 use Rattle.ci_yaml.specs.Prelude.{RefusedBy, GivesFault, value_view, Tree, YamlFault}
 use Rattle.ci_yaml.specs.Node.{of_line}
 use Rattle.ci_yaml_lines.specs.Least.{number_of}
@@ -29,21 +30,18 @@ same-number c d e = sym (number-back c) ∙ ap code_of e ∙ number-back d
 
 parts-same : (a b : List Line) (l m : Line) (c d : List Line) → length a ≡ length b → a ++ l ∷ c ≡ b ++ m ∷ d → (a ≡ b) × (l ≡ m)
 parts-same [] [] l m c d n e = (refl, cc)
-parts-same [] (y ∷ b) l m c d n e = absurd (omega (arith, n))
-parts-same (x ∷ a) [] l m c d n e = absurd (omega (arith, n))
 parts-same (x ∷ a) (y ∷ b) l m c d n e =
     let heads : x ≡ y = cc in
     let r = parts-same a b l m c d (omega (arith, n)) cc in
     (ap (λ (z : Line). z ∷ a) heads ∙ ap (λ (z : List Line). y ∷ z) r.0, r.1)
+parts-same a b l m c d n e = absurd (omega (arith, n))
 
 -- a shorter beginning lies in the longer one
 front-of : (a b : List Line) (l m : Line) (c d : List Line) → length a < length b → a ++ l ∷ c ≡ b ++ m ∷ d → take (suc (length a)) b ≡ a ++ l ∷ []
-front-of [] [] l m c d lt e = absurd (omega (arith, lt))
-front-of [] (y ∷ b) l m c d lt e = let heads : l ≡ y = cc in ap (λ (z : Line). z ∷ []) (sym heads)
-front-of (x ∷ a) [] l m c d lt e = absurd (omega (arith, lt))
-front-of (x ∷ a) (y ∷ b) l m c d lt e =
-    let heads : x ≡ y = cc in
-    ap (λ (z : Line). z ∷ take (suc (length a)) b) (sym heads) ∙ ap (λ (z : List Line). x ∷ z) (front-of a b l m c d (omega (arith, lt)) cc)
+front-of a b l m c d lt e =
+    let size : length (a ++ l ∷ []) ≡ suc (length a) = omega (arith, length-append a (l ∷ [])) in
+    sym (take-append-le (suc (length a)) b (m ∷ d) (omega (arith, lt))) ∙ ap (take (suc (length a))) (sym e ∙ sym (append_assoc a (l ∷ []) c))
+    ∙ take_at (a ++ l ∷ []) c (suc (length a)) size
 
 -- no earlier line is bad
 not-earlier : (a b : List Line) (l m : Line) (c d : List Line) → length a < length b → a ++ l ∷ c ≡ b ++ m ∷ d
@@ -64,19 +62,14 @@ one_fault bs i j c d (no_content size end parses at is) (too_long long at' is') 
 one_fault bs i j c d (no_content size end parses at is) (no_content size' end' parses' at' is') = (at ∙ sym at', is ∙ sym is')
 one_fault bs i j c d (no_content size end parses at is) (at_line size' before l after parts at' good bad least) = absurd (not-all (lines bs) before l after parts bad (skipped end parses))
 one_fault bs i j c d (at_line size before l after parts at good bad least) (at_line size' before' l' after' parts' at' good' bad' least') =
-    elim (cases_lt (length before) (length before')) [
-      | inl lt ↦ absurd (not-earlier before before' l l' after after' lt (sym parts ∙ parts') bad good')
-      | inr le ↦ elim (cases_lt (length before') (length before)) [
-        | inl lt ↦ absurd (not-earlier before' before l' l after' after lt (sym parts' ∙ parts) bad' good)
-        | inr ge ↦
-            let same : length before ≡ length before' = omega arith in
-            let both = parts-same before before' l l' after after' same (sym parts ∙ parts') in
-            let here : Holds before l d = subst (λ (x : Line). Holds before x d) (sym both.1) (subst (λ (x : List Line). Holds x l' d) (sym both.0) least'.holds) in
-            let there : Holds before' l' c = subst (λ (x : Line). Holds before' x c) both.1 (subst (λ (x : List Line). Holds x l c) both.0 least.holds) in
-            let le1 : number_of c ≤ number_of d = least.least d here in
-            let le2 : number_of d ≤ number_of c = least'.least c there in
-            (at ∙ ap suc same ∙ sym at', same-number c d (omega arith))
-      ]
+    elim (cases_order (length before) (length before')) [
+      | inl same ↦
+          let both = parts-same before before' l l' after after' same (sym parts ∙ parts') in
+          let le1 : number_of c ≤ number_of d = least.least d (rw (both.0, both.1) least'.holds) in
+          let le2 : number_of d ≤ number_of c = least'.least c (rw (← both.0, ← both.1) least.holds) in
+          (at ∙ ap suc same ∙ sym at', same-number c d (omega arith))
+      | inr (inl lt) ↦ absurd (not-earlier before before' l l' after after' lt (sym parts ∙ parts') bad good')
+      | inr (inr gt) ↦ absurd (not-earlier before' before l' l after' after gt (sym parts' ∙ parts) bad' good)
     ]
 
 -- ---- not both

@@ -9,13 +9,17 @@ returns-in_default-clause-value c = λ g. c.in_default.ensures.other refl c.args
 
 pub returns-then-has_key-clause-value : goal.returns-then-has_key-clause-value
 returns-then-has_key-clause-value c =
-    λ g. pair-repeats c.args.misplaced c.args.frames.now.items c.pop_pairs.new.frames.items c.in-Some.pairs c.in_ok-pairs.pairs c.in-Some.last c.args.name c.args.column (value_view c.args.value) g
-    c.in-Some.ensures.map c.in_ok-pairs.ensures.value (ap (λ k. has_name k (pairs_view c.in_ok-pairs.pairs.pairs.items)) (sym c.as_str.ensures) ∙ sym c.has_key.ensures ∙ c.if-has_key.true)
+    λ g. pair-repeats c.args.misplaced c.args.frames.now.items c.pop_pairs.new.frames.items c.in-Some.pairs c.in_ok-pairs.pairs c.in-Some.last c.args.name c.args.column
+    (value_view c.args.value) g
+    c.in-Some.ensures.map c.in_ok-pairs.ensures.value (ap (λ k. has_name k (pairs_view c.in_ok-pairs.pairs.pairs.items)) (sym c.as_str.ensures) ∙ sym c.has_key.ensures
+    ∙ c.if-has_key.true)
 
 pub returns-clause-value : goal.returns-clause-value
 returns-clause-value c =
-    λ g. sym (pair-joins c.args.misplaced c.args.frames.now.items c.pop_pairs.new.frames.items c.push.new.self.items c.in-Some.pairs c.in_ok-pairs.pairs c.in-Some.last c.args.name c.args.column (value_view c.args.value) g
-    c.in-Some.ensures.map c.in_ok-pairs.ensures.value (ap (λ k. has_name k (pairs_view c.in_ok-pairs.pairs.pairs.items)) (sym c.as_str.ensures) ∙ sym c.has_key.ensures ∙ c.if-has_key.false) c.in_ok-push.ensures.items)
+    λ g. sym (pair-joins c.args.misplaced c.args.frames.now.items c.pop_pairs.new.frames.items c.push.new.self.items c.in-Some.pairs c.in_ok-pairs.pairs
+    c.in-Some.last c.args.name c.args.column (value_view c.args.value) g
+    c.in-Some.ensures.map c.in_ok-pairs.ensures.value (ap (λ k. has_name k (pairs_view c.in_ok-pairs.pairs.pairs.items)) (sym c.as_str.ensures) ∙ sym c.has_key.ensures
+    ∙ c.if-has_key.false) c.in_ok-push.ensures.items)
 
 pub returns-clause-spans : goal.returns-clause-spans
 returns-clause-spans c =

@@ -14,7 +14,8 @@ pub tree_of-requires : goal.tree_of-requires
 tree_of-requires c =
     let all : map (λ x. x.now) c.deref.result.now ≡ lines c.args.text.now =
     ap (λ xs. map (λ x. x.now) xs) c.deref.ensures.value
-    ∙ IfOk-at_ok (λ w. map (λ x. x.now) (vec_items w) ≡ lines c.args.text.now) c.in_ok-lines.was (map_from_collect c.collect.result c.collect.ensures.ran (YieldsList-from_lines c.args.text.now c.lines.ensures.rest)) in
+    ∙ IfOk-at_ok (λ w. map (λ x. x.now) (vec_items w) ≡ lines c.args.text.now) c.in_ok-lines.was
+    (map_from_collect c.collect.result c.collect.ensures.ran (YieldsList-from_lines c.args.text.now c.lines.ensures.rest)) in
     record { short = texts-short c.args.text.now c.deref.result.now c.if-text-gt-MAX_FILE_BYTES.false all }
 
 pub returns-then-text-gt-MAX_FILE_BYTES-clause-refused : goal.returns-then-text-gt-MAX_FILE_BYTES-clause-refused
@@ -24,7 +25,8 @@ pub returns : goal.returns
 returns c =
     let all : map (λ x. x.now) c.deref.result.now ≡ lines c.args.text.now =
     ap (λ xs. map (λ x. x.now) xs) c.deref.ensures.value
-    ∙ IfOk-at_ok (λ w. map (λ x. x.now) (vec_items w) ≡ lines c.args.text.now) c.in_ok-lines.was (map_from_collect c.collect.result c.collect.ensures.ran (YieldsList-from_lines c.args.text.now c.lines.ensures.rest)) in
+    ∙ IfOk-at_ok (λ w. map (λ x. x.now) (vec_items w) ≡ lines c.args.text.now) c.in_ok-lines.was
+    (map_from_collect c.collect.result c.collect.ensures.ran (YieldsList-from_lines c.args.text.now c.lines.ensures.rest)) in
     let reads : Reads (lines c.args.text.now) c.tree_of.result = subst (λ ls. Reads ls c.tree_of.result) all c.tree_of.ensures.tree in
     let tree = text-tree c.args.text.now c.tree_of.result c.if-text-gt-MAX_FILE_BYTES.false reads in
     let fault = text-refused c.args.text.now c.tree_of.result c.if-text-gt-MAX_FILE_BYTES.false reads in

@@ -10,10 +10,12 @@ returns-clause-value c = subst (GivesAt passed_view c.args.number c.enter.result
 
 pub returns-clause-spans : goal.returns-clause-spans
 returns-clause-spans c =
-    IfOk-weaker c.enter.result _ _ (λ p is. record { texts = entries_texts c.in_ok-parsed.parsed.entries.items; stand = c.in_ok-parsed.ensures.spans; parts = is }) c.enter.ensures.spans
+    IfOk-weaker c.enter.result _ _
+    (λ p is. record { texts = entries_texts c.in_ok-parsed.parsed.entries.items; stand = c.in_ok-parsed.ensures.spans; parts = is }) c.enter.ensures.spans
 
 pub returns-clause-exact : goal.returns-clause-exact
 returns-clause-exact c =
     let before = state_texts c.args.progress in
     IfOk-weaker c.enter.result _ _
-    (λ p is. ap spans_of is ∙ spans-append before (entries_texts c.in_ok-parsed.parsed.entries.items) ∙ ap (λ ss. spans_of before ++ ss) c.in_ok-parsed.ensures.exact) c.enter.ensures.spans
+    (λ p is. ap spans_of is ∙ spans-append before (entries_texts c.in_ok-parsed.parsed.entries.items)
+    ∙ ap (λ ss. spans_of before ++ ss) c.in_ok-parsed.ensures.exact) c.enter.ensures.spans

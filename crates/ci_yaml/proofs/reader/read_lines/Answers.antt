@@ -9,6 +9,7 @@ lines-init c = record { within = omega arith; short = c.requires.short; read = n
 
 pub returns : goal.returns
 returns c =
-    let all = all-read (texts_of c.args.lines.now) c.lines.at (state_view c.lines.progress) (state_texts c.lines.progress) (omega (arith, length-texts c.args.lines.now, c.lines-test.false))
+    let all =
+    all-read (texts_of c.args.lines.now) c.lines.at (state_view c.lines.progress) (state_texts c.lines.progress) (omega (arith, length-texts c.args.lines.now, c.lines-test.false))
     (record { read = c.lines.invariant.read; texts = c.lines.invariant.texts; exact = c.lines.invariant.exact }) in
     record { read = all.0; spans = all.1; exact = all.2; fault = tt }
