@@ -1,7 +1,7 @@
 -- Before its block a header's entry holds an empty text.
 use Rattle.std.proofs.Common.{◌≡◌, ℕ, List, [], ◌∷◌, Option, Some, None, refl, sym, ◌∙◌, ap, subst}
 use Rattle.std.specs.Prelude.{⊤}
-use Rattle.ci_yaml.specs.Prelude.{Code, Value, text, Head, dash, key, bare, Entry, clip, strip, keep, Written, written_at, written, ParsedLine, entry_of, header_code, parse_line}
+use Rattle.ci_yaml.specs.Prelude.{Code, Value, text, Head, dash, key, bare, Entry, clip, Written, written_at, written, ParsedLine, entry_of, header_code, parse_line}
 use Rattle.ci_yaml.specs.Prelude.{Line, literal, filled, entries_with}
 use Rattle.ci_yaml_lines.specs.Prelude.{Chomp}
 use Rattle.ci_yaml_lines.proofs.Forms.{OfForms, OfLines, written_at-each, written-each, line-each}
@@ -56,8 +56,7 @@ lines-fit = record {
 
 nothing-in : (how : Chomp) → literal how [] ≡ []
 nothing-in clip = refl
-nothing-in strip = refl
-nothing-in keep = refl
+nothing-in how = refl
 
 entries-by : (h : Option Chomp) (es : List Entry) → LastHasText h es → entries_with h es [] ≡ es
 entries-by None es p = refl

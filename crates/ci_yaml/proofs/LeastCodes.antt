@@ -5,8 +5,8 @@ use Rattle.std.specs.List.{All}
 use Rattle.std.proofs.lemmas.Bool.{leb-true, leb-false}
 use Rattle.std.proofs.lemmas.List.Elements.{All-nil, All-cons, All-contains, Contains-append_left, Contains-append_right, Contains-append_cases}
 use Rattle.ci_yaml.specs.Prelude.{Code, bare, Entry, Written, ParsedLine, parse_line, Line, State, run, lesser, least, least_of, is_in_block, block_codes, literal, AreBlock}
-use Rattle.ci_yaml.specs.Prelude.{EndsBlock, Ending, outside, within, IsOutside, last_column, Parses, none, place_codes, Holds, of_block, of_place, IsLeast}
-use Rattle.ci_yaml.specs.Prelude.{Reader, with_text, stop_or, content_by, content, line_by, line_next}
+use Rattle.ci_yaml.specs.Prelude.{EndsBlock, Ending, outside, within, IsOutside, last_column, Parses, none, place_codes, Holds, of_block, of_place, IsLeast, Reader, with_text}
+use Rattle.ci_yaml.specs.Prelude.{stop_or, content_by, content, line_by, line_next}
 use Rattle.ci_yaml_lines.specs.Least.{number_of}
 use Rattle.ci_yaml.specs.Document.{line, block, of_line}
 use Rattle.ci_yaml.proofs.Sound.{StateStands, some_is}

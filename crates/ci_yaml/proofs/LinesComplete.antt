@@ -1,10 +1,9 @@
 -- Lines that say entries with a tree are read.
 use Rattle.std.proofs.Common.{◌≡◌, ℕ, Bool, true, false, cond, List, [], ◌∷◌, ◌++◌, Option, Some, None, Result, Ok, Err, refl, sym, ◌∙◌, ap, subst, append_assoc}
 use Rattle.std.proofs.lemmas.List.{append-nil}
-use Rattle.ci_yaml.specs.Prelude.{Code, Kind, sequence, mapping, Value, text, Head, dash, key, bare, Entry, level_of, parse_line, Line, ◌>>=◌}
-use Rattle.ci_yaml.specs.Prelude.{State, start, whole, inside, settle, value_of, misplaced, joined, member_next, bare_next, next_by, next, run}
-use Rattle.ci_yaml.specs.Prelude.{literal, AreBlock, EndsBlock, Ending, outside, within, ending_of, IsOutside, filled, entries_with, last_column, Parses, none}
-use Rattle.ci_yaml.specs.Prelude.{Reader, with_text, ending_at, content, line_by, line_next, read_lines, StartsOutside}
+use Rattle.ci_yaml.specs.Prelude.{Code, Kind, sequence, mapping, Value, text, Head, dash, key, bare, Entry, level_of, parse_line, Line, ◌>>=◌, State, start, whole, inside, settle}
+use Rattle.ci_yaml.specs.Prelude.{value_of, misplaced, joined, member_next, bare_next, next_by, next, run, literal, AreBlock, EndsBlock, Ending, outside, within, ending_of}
+use Rattle.ci_yaml.specs.Prelude.{IsOutside, filled, entries_with, last_column, Parses, none, Reader, with_text, ending_at, content, line_by, line_next, read_lines, StartsOutside}
 use Rattle.ci_yaml_lines.specs.Prelude.{Chomp}
 use Rattle.ci_yaml.specs.Reading.{Frame}
 use Rattle.ci_yaml.specs.Document.{line, block}

@@ -1,9 +1,9 @@
 -- What is read of lines stands over entries that the lines say.
 use Rattle.std.proofs.Common.{◌≡◌, ℕ, Bool, true, false, cond, List, [], ◌∷◌, ◌++◌, Option, Some, None, Result, Ok, Err, refl, sym, ◌∙◌, ap, subst, append_assoc}
 use Rattle.std.proofs.lemmas.List.{append-nil}
-use Rattle.ci_yaml.specs.Prelude.{Code, Value, text, Entry, parse_line, Line, ◌>>=◌, State, start, whole, inside, run, is_in_block, block_codes, literal, Ending}
-use Rattle.ci_yaml.specs.Prelude.{outside, within, IsOutside, filled, entries_with, last_column, Parses, none, least, Reader, with_text, stop_or, ending_at, content_by, content}
-use Rattle.ci_yaml.specs.Prelude.{line_by, line_next, read_lines, beginning}
+use Rattle.ci_yaml.specs.Prelude.{Code, Value, text, Entry, parse_line, Line, ◌>>=◌, State, start, whole, inside, run, is_in_block, block_codes, literal, Ending, outside, within}
+use Rattle.ci_yaml.specs.Prelude.{IsOutside, filled, entries_with, last_column, Parses, none, least, Reader, with_text, stop_or, ending_at, content_by, content, line_by, line_next}
+use Rattle.ci_yaml.specs.Prelude.{read_lines, beginning}
 use Rattle.ci_yaml_lines.specs.Prelude.{Chomp}
 use Rattle.ci_yaml.specs.Reading.{Frame}
 use Rattle.ci_yaml.specs.Document.{line, block}

@@ -6,8 +6,8 @@ use Rattle.std.proofs.Math.Nat.{min-eq_right}
 use Rattle.std.proofs.lemmas.List.{append-nil}
 use Rattle.std.proofs.lemmas.Bool.{ltb-false}
 use Rattle.ci_yaml.specs.Prelude.{Y3, Y9, when, clip, strip, keep, spaces, has_byte_order_mark, Line, is_spaces, first_indent, block_indent, line_text, block_lines, kept_len}
-use Rattle.ci_yaml.proofs.BlockLines.{first-append}
 use Rattle.ci_yaml.specs.Prelude.{without_end, without_last, literal, indent_codes, AreBlock, cut_text, cut_lines, cut_strip}
+use Rattle.ci_yaml.proofs.BlockLines.{first-append}
 
 -- each of the lines that isn't all spaces has n spaces at least
 abbrev pub AreHigh : ℕ → List Line → Type 0
@@ -56,17 +56,9 @@ last-behind [] b more = refl
 last-behind (x ∷ []) b more = refl
 last-behind (x ∷ y ∷ a) b more = ap (λ (z : List ℕ). x ∷ z) (last-behind (y ∷ a) b more)
 
-abbrev NotNil : List ℕ → Type 0
-NotNil [] = ⊥
-NotNil (b ∷ bs) = ⊤
-
-behind-not_nil : (a : List ℕ) (b : ℕ) (more : List ℕ) → NotNil (a ++ b ∷ more)
-behind-not_nil [] b more = tt
-behind-not_nil (x ∷ a) b more = tt
-
-last-cons : (b : ℕ) (bs : List ℕ) → NotNil bs → without_last (b ∷ bs) ≡ b ∷ without_last bs
-last-cons b [] h = absurd h
-last-cons b (c ∷ bs) h = refl
+last-cons : (b : ℕ) (a : List ℕ) (c : ℕ) (more : List ℕ) → without_last (b ∷ (a ++ c ∷ more)) ≡ b ∷ without_last (a ++ c ∷ more)
+last-cons b [] c more = refl
+last-cons b (x ∷ a) c more = refl
 
 strip-is : (n : ℕ) (ls : List Line) → cut_strip n ls ≡ without_last (cut_lines n ls)
 strip-is n [] = refl
@@ -74,7 +66,7 @@ strip-is n (l ∷ []) = sym (last-behind (cut_text n l) 10 [] ∙ append-nil (cu
 strip-is n (l ∷ m ∷ ls) =
     let more : List ℕ = cut_lines n (m ∷ ls) in
     ap (λ (x : List ℕ). cut_text n l ++ 10 ∷ x) (strip-is n (m ∷ ls))
-    ∙ ap (λ (x : List ℕ). cut_text n l ++ x) (sym (last-cons 10 more (behind-not_nil (cut_text n m) 10 (cut_lines n ls))))
+    ∙ ap (λ (x : List ℕ). cut_text n l ++ x) (sym (last-cons 10 (cut_text n m) 10 (cut_lines n ls)))
     ∙ sym (last-behind (cut_text n l) 10 more)
 
 -- ---- a block's text

@@ -3,10 +3,10 @@ use Rattle.std.proofs.Common.{◌≡◌, ℕ, suc, ◌<◌, ◌≤◌, Bool, tru
 use Rattle.std.proofs.Common.{nat_lt, nat_le, ◌==◌, ◌&&◌, ◌||◌}
 use Rattle.std.specs.Prelude.{⊤}
 use Rattle.std.proofs.lemmas.Bool.{lt-ltb, le-ltb, cases_lt, cases_order, eq-eqb, ne_eqb}
-use Rattle.ci_yaml.specs.Prelude.{Code, Y3, Y4, Y5, Y10, Kind, sequence, mapping, Value, Members, no_members, member, push, Head, dash, key, bare, Entry, head_of, level_of, ◌>>=◌, level}
-use Rattle.ci_yaml.specs.Prelude.{State, start, whole, inside, closed, settle, value_of, same_text, has_name, is_node, with_given, begun, is_repeated}
-use Rattle.ci_yaml.specs.Prelude.{begins, member_next, whole_of, bare_next, next_by, next, run, when, least, at_level, level_open, column_open, awaited, is_empty, fits, is_key}
-use Rattle.ci_yaml.specs.Prelude.{is_named, opens_above, too_deep, repeats_by, codes_at, or_else, place_codes, MAX_DEPTH}
+use Rattle.ci_yaml.specs.Prelude.{Code, Y3, Y4, Y5, Y10, Kind, sequence, mapping, Value, Members, no_members, member, push, Head, dash, key, bare, Entry, head_of, level_of, ◌>>=◌}
+use Rattle.ci_yaml.specs.Prelude.{level, State, start, whole, inside, closed, settle, value_of, same_text, has_name, is_node, with_given, begun, is_repeated, begins, member_next}
+use Rattle.ci_yaml.specs.Prelude.{whole_of, bare_next, next_by, next, run, when, least, at_level, level_open, column_open, awaited, is_empty, fits, is_key, is_named, opens_above}
+use Rattle.ci_yaml.specs.Prelude.{too_deep, repeats_by, codes_at, or_else, place_codes, MAX_DEPTH}
 use Rattle.ci_yaml.specs.Reading.{Frame, entered}
 use Rattle.ci_yaml.proofs.Sound.{Stands, StateStands, begins-none, next-stands, same_level}
 use Rattle.ci_yaml.proofs.Complete.{settle-closes, settle-stays}

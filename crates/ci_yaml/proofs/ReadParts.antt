@@ -2,9 +2,8 @@
 use Rattle.std.proofs.Common.{◌≡◌, ℕ, zero, suc, ◌+◌, ◌<◌, ◌≤◌, false, List, [], ◌∷◌, ◌++◌, length, take, drop, get_or, Option, Some, None, Ok, refl, sym, ◌∙◌, ap, subst, arith}
 use Rattle.std.proofs.lemmas.List.{length-take-le, drop-map}
 use denote.Bor.{Bor}
-use Rattle.ci_yaml.specs.Prelude.{MAX_FILE_BYTES, YamlFault, chomp_view, parse_line, Line, State, literal, AreBlock, EndsBlock, Ending, within, texts_of, with_text}
-use Rattle.ci_yaml.specs.Prelude.{content, below_view, FailsAt, BlockFails, StopsBy, HasRead, AreShort, Text, bytes_of, is_lent, spans_of, line_spans, Follow, Ends}
-use Rattle.ci_yaml.specs.Prelude.{with_last}
+use Rattle.ci_yaml.specs.Prelude.{MAX_FILE_BYTES, YamlFault, chomp_view, parse_line, Line, State, literal, AreBlock, EndsBlock, Ending, within, texts_of, with_text, content}
+use Rattle.ci_yaml.specs.Prelude.{below_view, FailsAt, BlockFails, StopsBy, HasRead, AreShort, Text, bytes_of, is_lent, spans_of, line_spans, Follow, Ends, with_last}
 use Rattle.ci_yaml_lines.specs.declared.entry.Chomp.{Chomp}
 use Rattle.ci_yaml.proofs.BlockLines.{texts-next, texts-take, length-texts}
 use Rattle.ci_yaml.proofs.ReadSteps.{Read, ReadLine, IsText, line-more, line-stops, block-more, block-stops}

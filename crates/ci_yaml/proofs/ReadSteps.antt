@@ -1,12 +1,12 @@
 -- Lines that are read, one after the other, with their texts, and where they stop.
-use Rattle.std.proofs.Common.{◌≡◌, ℕ, zero, suc, ◌+◌, ◌-◌, ◌≤◌, false, List, [], ◌∷◌, ◌++◌, map, length, take, drop, get_or, Option, Some, None, Result, Ok, Err, refl, sym, ◌∙◌, ap, subst}
-use Rattle.std.proofs.Common.{append_assoc, length-append, arith}
+use Rattle.std.proofs.Common.{◌≡◌, ℕ, zero, suc, ◌+◌, ◌-◌, ◌≤◌, false, List, [], ◌∷◌, ◌++◌, map, length, take, drop, get_or, Option, Some, None, Result, Ok, Err, refl, sym, ◌∙◌}
+use Rattle.std.proofs.Common.{ap, subst, append_assoc, length-append, arith}
 use Rattle.std.proofs.lemmas.List.{take-append-drop, drop-drop, append-nil, length-take-le, length-drop, nil_from_length}
 use Rattle.std.proofs.Math.Seq.{take-add}
-use Rattle.ci_yaml.specs.Prelude.{Code, Entry, entry_view, LeastParsed, least_parsed, ParsedLine, parse_line, Line, ◌>>=◌, State, start, run, literal, AreBlock}
-use Rattle.ci_yaml.specs.Prelude.{EndsBlock, Ending, outside, within, entries_with, last_column, Reader, with_text, ending_at, content_by, content, line_by, line_next}
-use Rattle.ci_yaml.specs.Prelude.{read_lines, beginning, StopsBlock, entered_by, StopsAt, StartsOutside, HasRead, Text, Span, bytes_of, is_lent, spans_of, line_spans, IsBlockAt, Lines}
-use Rattle.ci_yaml.specs.Prelude.{Follow, Ends, no_text, last_text, block_span, with_last, HaveSpans, GoOn}
+use Rattle.ci_yaml.specs.Prelude.{Code, Entry, entry_view, LeastParsed, least_parsed, ParsedLine, parse_line, Line, ◌>>=◌, State, start, run, literal, AreBlock, EndsBlock, Ending}
+use Rattle.ci_yaml.specs.Prelude.{outside, within, entries_with, last_column, Reader, with_text, ending_at, content_by, content, line_by, line_next, read_lines, beginning}
+use Rattle.ci_yaml.specs.Prelude.{StopsBlock, entered_by, StopsAt, StartsOutside, HasRead, Text, Span, bytes_of, is_lent, spans_of, line_spans, IsBlockAt, Lines, Follow, Ends}
+use Rattle.ci_yaml.specs.Prelude.{no_text, last_text, block_span, with_last, HaveSpans, GoOn}
 use Rattle.ci_yaml_lines.specs.declared.entry.Entry as parts
 use Rattle.ci_yaml_lines.specs.Prelude.{Chomp}
 use Rattle.ci_yaml.specs.Stops.{entered}

@@ -1,14 +1,14 @@
 -- What reading the lines of a text says of the text.
-use Rattle.std.proofs.Common.{◌≡◌, ℕ, suc, ◌-◌, ◌≤◌, ◌⊎◌, inl, inr, Bool, List, [], ◌∷◌, map, length, take, Some, None, Result, Ok, Err, refl, sym}
-use Rattle.std.proofs.Common.{◌∙◌, ap, subst, arith, ◌==◌, IfOk, IfErr, slice_index}
+use Rattle.std.proofs.Common.{◌≡◌, ℕ, suc, ◌-◌, ◌≤◌, ◌⊎◌, inl, inr, Bool, List, [], ◌∷◌, map, length, take, Some, None, Result, Ok, Err, refl, sym, ◌∙◌, ap, subst, arith, ◌==◌}
+use Rattle.std.proofs.Common.{IfOk, IfErr, slice_index}
 use Rattle.std.specs.Prelude.{⊤}
 use Rattle.std.specs.List.{slice_split, onto_first}
 use Rattle.std.specs.Str.Lines.{lines, lines_of_parts}
 use Rattle.std.proofs.lemmas.List.{take-append-drop, length-take}
 use Rattle.ci_yaml_lines.proofs.Forms.{either}
 use denote.Bor.{Bor}
-use Rattle.ci_yaml.specs.Prelude.{MAX_FILE_BYTES, Code, Y12, YamlFault, Tree, value_view, Value, Entry, State, start, finished, Line, Parses, HasTree}
-use Rattle.ci_yaml.specs.Prelude.{IsGood, IsFault, at_line, no_content, texts_of, Reader, read_lines, beginning, StopsAt, AreShort, Reads, RefusedBy, GivesTree}
+use Rattle.ci_yaml.specs.Prelude.{MAX_FILE_BYTES, Code, Y12, YamlFault, Tree, value_view, Value, Entry, State, start, finished, Line, Parses, HasTree, IsGood, IsFault, at_line}
+use Rattle.ci_yaml.specs.Prelude.{no_content, texts_of, Reader, read_lines, beginning, StopsAt, AreShort, Reads, RefusedBy, GivesTree}
 use Rattle.ci_yaml.proofs.Sound.{StateStands, some_is, ok_is}
 use Rattle.ci_yaml.proofs.LinesSound.{lines-stand}
 use Rattle.ci_yaml.proofs.LeastCodes.{stop-least}

@@ -3,10 +3,10 @@ use Rattle.std.proofs.Common.{◌≡◌, ℕ, zero, suc, pos, ◌+◌, ◌<◌, 
 use Rattle.std.specs.Prelude.{⊤}
 use Rattle.std.specs.Str.{bytes_eq}
 use Rattle.std.specs.Str.Lines.{lines}
-use Rattle.ci_yaml.specs.Prelude.{Kind, Value, null, boolean, number, node, Members, no_members, member, HaveNoNames, Entry, IsWithin, HasValue, here}
-use Rattle.ci_yaml.specs.Prelude.{deeper, nothing, IsNode, AreMembers, IsDocument, of_node, drop_blanks, trim_end, head_is, tail_of, Quoted, quoted, is_quote, count_of}
-use Rattle.ci_yaml.specs.Prelude.{negative_of, number_or_text, plain_value, End, comma, cut_place, plain_place, quoted_place, place, Listed, after_place, places}
-use Rattle.ci_yaml.specs.Prelude.{listed, Written, parse_line, Line, literal, Ending, filled, Parses, none, HasTree, KeysDiffer, AllKeysDiffer, depth, members_depth, MAX_DEPTH}
+use Rattle.ci_yaml.specs.Prelude.{Kind, Value, null, boolean, number, node, Members, no_members, member, HaveNoNames, Entry, IsWithin, HasValue, here, deeper, nothing, IsNode}
+use Rattle.ci_yaml.specs.Prelude.{AreMembers, IsDocument, of_node, drop_blanks, trim_end, head_is, tail_of, Quoted, quoted, is_quote, count_of, negative_of, number_or_text}
+use Rattle.ci_yaml.specs.Prelude.{plain_value, End, comma, cut_place, plain_place, quoted_place, place, Listed, after_place, places, listed, Written, parse_line, Line, literal}
+use Rattle.ci_yaml.specs.Prelude.{Ending, filled, Parses, none, HasTree, KeysDiffer, AllKeysDiffer, depth, members_depth, MAX_DEPTH}
 use Rattle.ci_yaml.specs.Node.{of_line}
 use Rattle.ci_yaml_lines.specs.Scalar.{number_of}
 use Rattle.ci_yaml_lines.specs.Prelude.{Place}

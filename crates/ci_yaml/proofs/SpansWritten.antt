@@ -28,9 +28,7 @@ stand-held before after l passed bs rest all e (more bs' front raw behind rest' 
     let parts : l ≡ passed ++ front ++ raw ++ behind =
     e ∙ ap (λ (x : List ℕ). passed ++ x) (is ∙ append_assoc front raw behind) ∙ sym (append_assoc passed front (raw ++ behind)) ∙ sym (append_assoc (passed ++ front) raw behind) in (
       on_line before l after (passed ++ front) raw behind refl parts written
-          (span
-          ∙ ap (λ (n : ℕ). record { start = record { line = suc (length before); column = n }; end = record { line = suc (length before); column = length l - length behind } }) at-start
-          ∙ ap (λ (n : ℕ). record { start = record { line = suc (length before); column = length (passed ++ front) }; end = record { line = suc (length before); column = n } }) at-end),
+          (span ∙ rw (at-start, at-end) refl),
       stand-held before after l (passed ++ front ++ raw) behind rest ts parts stand,
     )
 

@@ -1,11 +1,11 @@
 -- Steps of the code on open nodes.
-use Rattle.std.proofs.Common.{◌≡◌, ℕ, ◌+◌, ◌<◌, ◌≤◌, Bool, true, false, cond, List, [], ◌∷◌, ◌++◌, length, take, drop, get_or, Option, Ok, Err, refl, sym, ◌∙◌, ap, arith}
-use Rattle.std.proofs.Common.{nat_le, ◌==◌}
+use Rattle.std.proofs.Common.{◌≡◌, ℕ, ◌+◌, ◌<◌, ◌≤◌, Bool, true, false, cond, List, [], ◌∷◌, ◌++◌, length, take, drop, get_or, Option, Ok, Err, refl, sym, ◌∙◌, ap, arith, nat_le}
+use Rattle.std.proofs.Common.{◌==◌}
 use Rattle.std.proofs.lemmas.Bool.{lt-ltb, le-ltb, leb-true, leb-false, eq-eqb, ne_eqb}
 use Rattle.std.proofs.lemmas.List.{take_more, take-append-drop}
-use Rattle.ci_yaml.specs.Prelude.{Y5, Y10, Kind, sequence, mapping, Value, Code, push, inside, with_given, is_node}
-use Rattle.ci_yaml.specs.Prelude.{is_open_at, has_name, joined, level, is_repeated, Head, dash, key, Entry, level_of, Open, OpenMap, Items, Pairs, Text, Tree}
-use Rattle.ci_yaml.specs.Prelude.{bytes_of, items_view, pairs_view, open_kind, open_done, open_name, frame_view, frames_onto, frames_view, NoneJoins, MAX_DEPTH}
+use Rattle.ci_yaml.specs.Prelude.{Y5, Y10, Kind, sequence, mapping, Value, Code, push, inside, with_given, is_node, is_open_at, has_name, joined, level, is_repeated, Head, dash}
+use Rattle.ci_yaml.specs.Prelude.{key, Entry, level_of, Open, OpenMap, Items, Pairs, Text, Tree, bytes_of, items_view, pairs_view, open_kind, open_done, open_name, frame_view}
+use Rattle.ci_yaml.specs.Prelude.{frames_onto, frames_view, NoneJoins, MAX_DEPTH}
 use Rattle.ci_yaml.specs.declared.progress.Frame.{Frame}
 use Rattle.ci_yaml.specs.Reading as reading
 use Rattle.std.specs.Global.{Vec}
@@ -90,14 +90,9 @@ pub pair-joins : (m : Code) (old init new : List Frame) (pairs more : OpenMap) (
     → has_name (bytes_of name) (pairs_view more.pairs.items) ≡ false → new ≡ init ++ frame_at column (Pairs more name) ∷ []
     → with_given (frames_view new) g ≡ joined m (frames_view old) v mapping (bytes_of name) (entry_at column (key (bytes_of name)) g)
 pair-joins m old init new pairs more last name column v g parts pushed fresh new-is =
-    rw (
-      new-is,
-      frames-push init (frame_at column (Pairs more name)),
-      pushed,
-      step-same m old init (Pairs pairs last) v (bytes_of name)
-          (entry_at column (key (bytes_of name)) g) parts,
-      rw pushed at fresh,
-    ) refl
+    let there = frames-push init (frame_at column (Pairs more name)) in
+    let same = step-same m old init (Pairs pairs last) v (bytes_of name) (entry_at column (key (bytes_of name)) g) parts in
+    rw (new-is, there, pushed, same, rw pushed at fresh) refl
 
 pub pair-repeats : (m : Code) (old init : List Frame) (pairs more : OpenMap) (last name : Text) (column : ℕ) (v : Value) (g : Option Value)
     → old ≡ init ++ frame_at column (Pairs pairs last) ∷ []

@@ -1,13 +1,10 @@
 -- Lines have one list of spans, and what is read has it.
-use Rattle.std.proofs.Common.{◌≡◌, ℕ, zero, suc, ◌+◌, Bool, true, false, cond, List, [], ◌∷◌, ◌++◌, length, drop, Option, Some, None, refl}
-use Rattle.std.proofs.Common.{sym, ◌∙◌, ap, subst, is_some, ◌||◌}
+use Rattle.std.proofs.Common.{◌≡◌, ℕ, zero, suc, ◌+◌, Bool, true, false, cond, List, [], ◌∷◌, ◌++◌, length, drop, Option, Some, None, refl, sym, ◌∙◌, ap, subst, is_some, ◌||◌}
 use Rattle.std.specs.Prelude.{⊤}
-use Rattle.ci_yaml.specs.Prelude.{Y2, SourceLine, Span, Text, Tree, Tree-F, roll-Tree, ind-Tree, fold-roll-Tree, Value, text}
-use Rattle.ci_yaml.specs.Prelude.{value_view, view_step, texts_in, texts_step, given_view, head_is, tail_of, trim_end, only_comment, drop_blanks, Line, ParsedLine}
-use Rattle.ci_yaml.specs.Prelude.{parse_line, parse_content, parse_entries, keyed_or_bare, keyed, Keyed, written, written_at, unwritten, Item, inner, value, item, dashed, is_dash}
-use Rattle.ci_yaml.specs.Prelude.{spaces, is_skipped, given_texts, spans_of, given_spans, keyed_spans, item_spans, entries_spans, content_spans, line_spans}
-use Rattle.ci_yaml.specs.Prelude.{whole, inside}
-use Rattle.ci_yaml.specs.Prelude.{last_column, with_last, HaveSpans}
+use Rattle.ci_yaml.specs.Prelude.{Y2, SourceLine, Span, Text, Tree, Tree-F, roll-Tree, ind-Tree, fold-roll-Tree, Value, text, value_view, view_step, texts_in, texts_step}
+use Rattle.ci_yaml.specs.Prelude.{given_view, head_is, tail_of, trim_end, only_comment, drop_blanks, Line, ParsedLine, parse_line, parse_content, parse_entries, keyed_or_bare}
+use Rattle.ci_yaml.specs.Prelude.{keyed, Keyed, written, written_at, unwritten, Item, inner, value, item, dashed, is_dash, spaces, is_skipped, given_texts, spans_of, given_spans}
+use Rattle.ci_yaml.specs.Prelude.{keyed_spans, item_spans, entries_spans, content_spans, line_spans, whole, inside, last_column, with_last, HaveSpans}
 use Rattle.ci_yaml_lines.specs.declared.tree.Tree.{Text as TextTree}
 use Rattle.ci_yaml.specs.Reading as frames
 use Rattle.ci_yaml_lines.specs.Prelude.{Chomp}

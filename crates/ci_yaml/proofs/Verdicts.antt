@@ -4,9 +4,9 @@ use Rattle.std.proofs.Common.{append_assoc, ◌-◌, get_or, IfOk, IfErr}
 use Rattle.std.specs.Str.Lines.{lines}
 use Rattle.std.proofs.lemmas.Bool.{cases_lt, cases_order}
 use Rattle.std.proofs.lemmas.List.{length-append, take-append-le, take_at}
-use Rattle.ci_yaml.specs.Prelude.{MAX_FILE_BYTES, Code, Y1, Y2, Y3, Y4, Y5, Y6, Y7, Y8, Y9, Y10, Y11, Y12, Value, node, Entry, IsNode, IsDocument}
-use Rattle.ci_yaml.specs.Prelude.{of_node, finished, Line, HasTree, IsGood, has_tree, skipped, IsFault, too_long, at_line, no_content, Reader, read_lines, beginning}
-use Rattle.ci_yaml.specs.Prelude.{RefusedBy, GivesFault, value_view, Tree, YamlFault}
+use Rattle.ci_yaml.specs.Prelude.{MAX_FILE_BYTES, Code, Y1, Y2, Y3, Y4, Y5, Y6, Y7, Y8, Y9, Y10, Y11, Y12, Value, node, Entry, IsNode, IsDocument, of_node, finished, Line, HasTree}
+use Rattle.ci_yaml.specs.Prelude.{IsGood, has_tree, skipped, IsFault, too_long, at_line, no_content, Reader, read_lines, beginning, RefusedBy, GivesFault, value_view, Tree}
+use Rattle.ci_yaml.specs.Prelude.{YamlFault}
 use Rattle.ci_yaml.specs.Node.{of_line}
 use Rattle.ci_yaml_lines.specs.Least.{number_of}
 use Rattle.ci_yaml.proofs.LeastCodes.{parses-same}

@@ -9,8 +9,8 @@ pub use Rattle.ci_yaml.specs.Document.{last_column, no_content, none, of_block, 
 pub use Rattle.ci_yaml.specs.FaultText.{fault_text}
 pub use Rattle.ci_yaml.specs.Node.{AreMembers, HasValue, IsDocument, IsNode, IsWithin, deeper, here, nothing, of_node}
 pub use Rattle.ci_yaml.specs.ReadLines.{Reader, beginning, content, content_by, ending_at, line_by, line_next, read_lines, stop_or, with_text}
-pub use Rattle.ci_yaml.specs.Reading.{State, bare_next, begins, begun, close_all, closed, finished, has_name, inside, is_node, is_open_at, is_repeated, joined, level}
-pub use Rattle.ci_yaml.specs.Reading.{member_next, misplaced, next, next_by, run, same_text, settle, start, top_deeper, value_of, whole, whole_of, with_given, ◌>>=◌}
+pub use Rattle.ci_yaml.specs.Reading.{State, bare_next, begins, begun, close_all, closed, finished, has_name, inside, is_node, is_open_at, is_repeated, joined, level, member_next}
+pub use Rattle.ci_yaml.specs.Reading.{misplaced, next, next_by, run, same_text, settle, start, top_deeper, value_of, whole, whole_of, with_given, ◌>>=◌}
 pub use Rattle.ci_yaml.specs.Shape.{AllKeysDiffer, KeysDiffer, depth, members_depth}
 pub use Rattle.ci_yaml.specs.Spans.{AllAt, AreWritten, Ascend, Ends, Follow, IsBlockAt, Lines, Precedes, frames_texts, in_block, last_text, no_text, on_line, open_texts}
 pub use Rattle.ci_yaml.specs.Spans.{state_texts}
