@@ -51,9 +51,6 @@ indent-here xs i d l lt is e = ap first_indent (texts-next xs i d l lt is) ∙ a
 pub indent-next : (xs : List (Bor (List ℕ))) (i : ℕ) (d : Bor (List ℕ)) (l : Line) → i < length xs → l ≡ (get_or xs i d).now → is_spaces l ≡ true → first_indent (texts_of (drop (i + 1) xs)) ≡ first_indent (texts_of (drop i xs))
 indent-next xs i d l lt is e = sym (ap first_indent (texts-next xs i d l lt is) ∙ ap (λ t. cond t (first_indent (texts_of (drop (i + 1) xs))) (Some (spaces l))) e)
 
-pub indent-past : (xs : List (Bor (List ℕ))) (i : ℕ) → length xs ≤ i → first_indent (texts_of (drop i xs)) ≡ None
-indent-past xs i le = ap first_indent (texts-past xs i le)
-
 pub push-next : (n : ℕ) (xs : List (Bor (List ℕ))) (i : ℕ) (d : Bor (List ℕ)) (a b e : List ℕ) → i < length xs → b ≡ a ++ cut_text n (get_or xs i d).now → e ≡ b ++ 10 ∷ []
     → e ++ cut_lines n (texts_of (drop (i + 1) xs)) ≡ a ++ cut_lines n (texts_of (drop i xs))
 push-next n xs i d a b e lt b-is e-is =

@@ -201,16 +201,12 @@ place-by fs given kind name e es false false lt h head is_awaited is_open =
 
 -- ---- each state
 
-no-repeats : (kind : Kind) (name : List ℕ) (l : ℕ) → repeats_kind kind name l [] ≡ false
-no-repeats sequence name l = refl
-no-repeats kind name l = refl
-
 first-code : (kind : Kind) (name : List ℕ) (e : Entry) (b : Bool) → e.head ≡ head_of kind name → (e.column == 0) ≡ b
     → fault_of (cond b (begun [] kind name e) (Err Y3)) ≡ least (codes_at [] e)
 first-code kind name e b head is =
     let l : ℕ = level_of kind e.column in
     let d : Bool = deep_at 0 (is_node e.given) in
-    by b (code-by e [] kind name b false d head (rw is (or-false b)) (no-repeats kind name l) (ap (λ m. deep_at m (is_node e.given)) (above-is l [] None [] refl ∙ no-levels l)))
+    by b (code-by e [] kind name b false d head (rw is (or-false b)) (kind-below kind e.column name [] None [] refl tt) (ap (λ m. deep_at m (is_node e.given)) (above-is l [] None [] refl ∙ no-levels l)))
   where
     or-false : (t : Bool) → (t || false) ≡ t
     or-false t = grind arith

@@ -46,11 +46,9 @@ short-within : (n : ℕ) (ls : List Line) → n ≤ MAX_FILE_BYTES → AreWithin
 short-within n [] le h = tt
 short-within n (l ∷ ls) le h = (omega (arith, h.0), short-within n ls le h.1)
 
-lines-short : (bs : List ℕ) → length bs ≤ MAX_FILE_BYTES → AreShort (lines bs)
-lines-short bs le = short-within (length bs) (lines bs) le (parts-within (length bs) (slice_split (λ b. b == 10) bs) (split-within (λ b. b == 10) bs))
-
 pub texts-short : (bs : List ℕ) (xs : List (Bor (List ℕ))) → length bs ≤ MAX_FILE_BYTES → map (λ x. x.now) xs ≡ lines bs → AreShort (texts_of xs)
-texts-short bs xs le e = subst AreShort (sym e) (lines-short bs le)
+texts-short bs xs le e =
+    subst AreShort (sym e) (short-within (length bs) (lines bs) le (parts-within (length bs) (slice_split (λ b. b == 10) bs) (split-within (λ b. b == 10) bs)))
 
 -- ---- what a text has
 

@@ -5,9 +5,6 @@ use Rattle.ci_yaml.specs.Prelude.{Text, bytes_of, Line, is_lent, Stand, StandOn,
 use Rattle.ci_yaml.specs.Spans.{line, block, none}
 use Rattle.ci_yaml_lines.proofs.SpansStand.{stand-front}
 
-nothing-on : (n : ℕ) (l : Line) → StandOn n l []
-nothing-on n l = Stand.none l l [] (sym (append-nil l))
-
 -- ---- the texts before others
 
 -- a list in two parts, parted in another place: within the first part, or behind it
@@ -47,7 +44,7 @@ later : (doc : List Line) (n : ℕ) (xs bs : List Line) (us : List Text) → Lin
 later doc n [] bs us h = let e : n + 0 ≡ n = omega arith in subst (λ (m : ℕ). Lines doc m bs us) e h
 later doc n (a ∷ xs) bs us h =
     let e : n + suc (length xs) ≡ suc n + length xs = omega arith in
-    line n a (xs ++ bs) [] us us (nothing-on (suc n) a) (later doc (suc n) xs bs us (subst (λ (m : ℕ). Lines doc m bs us) e h)) refl
+    line n a (xs ++ bs) [] us us (Stand.none a a [] (sym (append-nil a))) (later doc (suc n) xs bs us (subst (λ (m : ℕ). Lines doc m bs us) e h)) refl
 
 pub lines-append : (doc : List Line) (n : ℕ) (xs bs : List Line) (ts us : List Text) → Lines doc n xs ts → Lines doc (n + length xs) bs us → Lines doc n (xs ++ bs) (ts ++ us)
 lines-append doc n xs bs ts us (none n' xs') h = later doc n xs bs us h

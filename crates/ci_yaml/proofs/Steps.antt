@@ -1,9 +1,9 @@
 -- Steps of the code on open nodes.
-use Rattle.std.proofs.Common.{◌≡◌, ℕ, ◌+◌, ◌<◌, ◌≤◌, Bool, true, false, cond, List, [], ◌∷◌, ◌++◌, length, take, drop, get_or, Option, Ok, Err, refl, sym, ◌∙◌, ap, arith, nat_le}
+use Rattle.std.proofs.Common.{◌≡◌, ℕ, ◌+◌, ◌<◌, ◌≤◌, Bool, true, false, cond, List, [], ◌∷◌, ◌++◌, length, take, drop, get_or, Option, Err, refl, sym, ◌∙◌, ap, arith, nat_le}
 use Rattle.std.proofs.Common.{◌==◌}
-use Rattle.std.proofs.lemmas.Bool.{lt-ltb, le-ltb, leb-true, leb-false, eq-eqb, ne_eqb}
+use Rattle.std.proofs.lemmas.Bool.{leb-true, leb-false, eq-eqb, ne_eqb}
 use Rattle.std.proofs.lemmas.List.{take_more, take-append-drop}
-use Rattle.ci_yaml.specs.Prelude.{Y5, Y10, Kind, sequence, mapping, Value, Code, push, inside, with_given, is_node, is_open_at, has_name, joined, level, is_repeated, Head, dash}
+use Rattle.ci_yaml.specs.Prelude.{Y5, Kind, sequence, mapping, Value, Code, push, with_given, is_open_at, has_name, joined, level, is_repeated, Head, dash}
 use Rattle.ci_yaml.specs.Prelude.{key, Entry, level_of, Open, OpenMap, Items, Pairs, Text, Tree, bytes_of, items_view, pairs_view, open_kind, open_done, open_name, frame_view}
 use Rattle.ci_yaml.specs.Prelude.{frames_onto, frames_view, NoneJoins, MAX_DEPTH}
 use Rattle.ci_yaml.specs.declared.progress.Frame.{Frame}
@@ -25,12 +25,6 @@ full-deep fs xs is full = let le : MAX_DEPTH ≤ length xs = leb-true _ _ (sym f
 
 pub full-room : (fs xs : List Frame) → xs ≡ fs → false ≡ nat_le MAX_DEPTH (length xs) → length (frames_view fs) < MAX_DEPTH
 full-room fs xs is room = let lt : length xs < MAX_DEPTH = leb-false _ _ (sym room) in omega (arith, ap length is, frames-length fs)
-
-pub with-deep : (fs : List reading.Frame) (g : Option Value) → is_node g ≡ true → MAX_DEPTH ≤ length fs → with_given fs g ≡ Err Y10
-with-deep fs g e le = rw (e, le-ltb (length fs) MAX_DEPTH le) refl
-
-pub with-room : (fs : List reading.Frame) (g : Option Value) → is_node g ≡ true → length fs < MAX_DEPTH → with_given fs g ≡ Ok (inside fs g)
-with-room fs g e lt = rw (e, lt-ltb (length fs) MAX_DEPTH lt) refl
 
 -- ---- a node in a column
 

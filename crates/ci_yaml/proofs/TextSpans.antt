@@ -113,12 +113,10 @@ one-by f h = absurd (subst IsText (fold-roll-Tree Value view_step f) h)
 one-text : (t : Tree) → OneText t
 one-text = ind-Tree OneText (λ x y is. one-by x)
 
-whole-text : (v : Value) (bs : List ℕ) → whole v ≡ whole (text bs) → IsText v
-whole-text v bs e = let same : text bs ≡ v = cc in subst IsText same tt
-
 pub last-whole : (t : Tree) (u : Text) (bs : List ℕ) → whole (value_view t) ≡ whole (text bs) → spans_of (texts_in (TextTree u)) ≡ with_last u.span (spans_of (texts_in t))
 last-whole t u bs e =
-    let h = one-text t (whole-text (value_view t) bs e) in
+    let same : text bs ≡ value_view t = cc in
+    let h = one-text t (subst IsText same tt) in
     ap spans_of (texts-Text u) ∙ sym (ap (λ (ts : List Text). with_last u.span (spans_of ts)) h.1)
 
 given-one : (g : Option Tree) (fs : List frames.Frame) (bs : List ℕ) → inside fs (given_view g) ≡ inside fs (Some (text bs)) → (x : Text) × (given_texts g ≡ x ∷ [])

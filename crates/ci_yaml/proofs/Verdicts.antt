@@ -23,9 +23,6 @@ number-back : (c : Code) → code_of (number_of c) ≡ c
 number-back Y1 = refl
 number-back c = refl
 
-same-number : (c d : Code) → number_of c ≡ number_of d → c ≡ d
-same-number c d e = sym (number-back c) ∙ ap code_of e ∙ number-back d
-
 -- ---- one fault
 
 parts-same : (a b : List Line) (l m : Line) (c d : List Line) → length a ≡ length b → a ++ l ∷ c ≡ b ++ m ∷ d → (a ≡ b) × (l ≡ m)
@@ -67,7 +64,8 @@ one_fault bs i j c d (at_line size before l after parts at good bad least) (at_l
           let both = parts-same before before' l l' after after' same (sym parts ∙ parts') in
           let le1 : number_of c ≤ number_of d = least.least d (rw (both.0, both.1) least'.holds) in
           let le2 : number_of d ≤ number_of c = least'.least c (rw (← both.0, ← both.1) least.holds) in
-          (at ∙ ap suc same ∙ sym at', same-number c d (omega arith))
+          let numbers : number_of c ≡ number_of d = omega arith in
+          (at ∙ ap suc same ∙ sym at', sym (number-back c) ∙ ap code_of numbers ∙ number-back d)
       | inr (inl lt) ↦ absurd (not-earlier before before' l l' after after' lt (sym parts ∙ parts') bad good')
       | inr (inr gt) ↦ absurd (not-earlier before' before l' l after' after gt (sym parts' ∙ parts) bad' good)
     ]
