@@ -33,15 +33,13 @@ parses-same ls es fs d e none none = (refl, refl)
 parses-same ls es fs d e (line l rest more all end clean no_header parses is) (line l2 rest2 more2 all2 end2 clean2 no_header2 parses2 is2) =
     let r = parses-same rest more more2 end end2 parses parses2 in
     (rw (is, r.0) (sym is2), r.1)
-parses-same ls es fs d e (line l rest more all end clean no_header parses is) (block l2 lines2 rest2 below2 how2 more2 all2 end2 last2 clean2 header2 parts2 are2 ends2 parses2 is2 last-is2) =
-    let no : Some how2 ≡ None = sym header2 ∙ no_header in absurd cc
-parses-same ls es fs d e (block l lines rest below how more all end last clean header parts are ends parses is last-is) (line l2 rest2 more2 all2 end2 clean2 no_header2 parses2 is2) =
-    let no : Some how ≡ None = sym header ∙ no_header2 in absurd cc
-parses-same ls es fs d e (block l lines rest below how more all end last clean header parts are ends parses is last-is) (block l2 lines2 rest2 below2 how2 more2 all2 end2 last2 clean2 header2 parts2 are2 ends2 parses2 is2 last-is2) =
+parses-same ls es fs d e (line _ _ _ _ _ _ no_header _ _) (block _ _ _ _ how _ _ _ _ _ header _ _ _ _ _ _) = let no : Some how ≡ None = sym header ∙ no_header in absurd cc
+parses-same ls es fs d e (block _ _ _ _ how _ _ _ _ _ header _ _ _ _ _ _) (line _ _ _ _ _ _ no_header _ _) = let no : Some how ≡ None = sym header ∙ no_header in absurd cc
+parses-same ls es fs d e (block l lines rest _ how more _ end _ _ header parts are ends p is to) (block _ lines2 rest2 _ how2 more2 _ end2 _ _ header2 parts2 are2 ends2 p2 is2 to2) =
     let hows : how ≡ how2 = some_is how how2 (sym header ∙ header2) in
     let f = front-same (last_column (parse_line l).entries) [] lines lines2 rest rest2 are are2 ends ends2 (sym parts ∙ parts2) in
-    let r = parses-same rest more more2 end end2 parses (rw f.1 parses2) in
-    (rw (is, hows, f.0, r.0) (sym is2), rw (last-is, hows, f.0, f.1, r.1) (sym last-is2))
+    let r = parses-same rest more more2 end end2 p (rw f.1 p2) in
+    (rw (is, hows, f.0, r.0) (sym is2), rw (to, hows, f.0, f.1, r.1) (sym to2))
 
 -- ---- the least of a list
 
@@ -146,8 +144,8 @@ line-code st es outside l h = content-code st es l h
 line-code st es (within how c so_far) l h = by (is_in_block c l)
   where
     by : (b : Bool)
-        → fault_of (cond b (stop_or (least (block_codes so_far l)) (record { state = with_text (literal how (so_far ++ l ∷ [])) st; end = within how c (so_far ++ l ∷ []) })) (content st (parse_line l)))
-        ≡ least (cond b (block_codes so_far l) (own_codes es l))
+        → fault_of (cond b (stop_or (least (block_codes so_far l)) (record { state = with_text (literal how (so_far ++ l ∷ [])) st; end = within how c (so_far ++ l ∷ []) }))
+        (content st (parse_line l))) ≡ least (cond b (block_codes so_far l) (own_codes es l))
     by true = stop-code (least (block_codes so_far l)) _
     by false = content-code st es l h
 

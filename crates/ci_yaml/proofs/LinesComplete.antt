@@ -57,8 +57,7 @@ run-filled s (e ∷ f ∷ es) t u h = run-two u (next s e) (filled (f ∷ es) t)
 
 twice : (t u : List ℕ) (s : State) → with_text u (with_text t s) ≡ with_text u s
 twice t u start = refl
-twice t u (whole v) = refl
-twice t u (inside fs given) = refl
+twice t u s = refl
 
 -- the lines of a block
 pub block-read : (st : State) (how : Chomp) (c : ℕ) (so_far ls rest : List Line) → AreBlock c so_far ls

@@ -20,11 +20,9 @@ use Rattle.ci_yaml.proofs.LeastCodes.{front-same}
 pub spans-same : (n : ℕ) (ls : List Line) (a b : List Span) → HaveSpans n ls a → HaveSpans n ls b → a ≡ b
 spans-same n ls a b (none n') (none m') = refl
 spans-same n ls a b (line n' l rest more all header have is) (line m' l2 rest2 more2 all2 header2 have2 is2) = rw (is, spans-same (suc n) rest more more2 have have2) (sym is2)
-spans-same n ls a b (line n' l rest more all header have is) (block m' l2 lines2 rest2 below2 how2 more2 all2 header2 parts2 are2 ends2 have2 is2) =
-    let no : Some how2 ≡ None = sym header2 ∙ header in absurd cc
-spans-same n ls a b (block n' l lines rest below how more all header parts are ends have is) (line m' l2 rest2 more2 all2 header2 have2 is2) =
-    let no : Some how ≡ None = sym header ∙ header2 in absurd cc
-spans-same n ls a b (block n' l lines rest below how more all header parts are ends have is) (block m' l2 lines2 rest2 below2 how2 more2 all2 header2 parts2 are2 ends2 have2 is2) =
+spans-same n ls a b (line _ _ _ _ _ no_header _ _) (block _ _ _ _ _ how _ _ header _ _ _ _ _) = let no : Some how ≡ None = sym header ∙ no_header in absurd cc
+spans-same n ls a b (block _ _ _ _ _ how _ _ header _ _ _ _ _) (line _ _ _ _ _ no_header _ _) = let no : Some how ≡ None = sym header ∙ no_header in absurd cc
+spans-same n ls a b (block _ l lines rest _ _ more _ _ parts are ends have is) (block _ _ lines2 rest2 _ _ more2 _ _ parts2 are2 ends2 have2 is2) =
     let f = front-same (last_column (parse_line l).entries) [] lines lines2 rest rest2 are are2 ends ends2 (sym parts ∙ parts2) in
     rw (is, spans-same (suc n + length lines) rest more more2 have (rw (f.0, f.1) have2), f.0) (sym is2)
 
