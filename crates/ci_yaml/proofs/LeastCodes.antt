@@ -35,11 +35,11 @@ parses-same ls es fs d e (line l rest more all end clean no_header parses is) (l
     (rw (is, r.0) (sym is2), r.1)
 parses-same ls es fs d e (line _ _ _ _ _ _ no_header _ _) (block _ _ _ _ how _ _ _ _ _ header _ _ _ _ _ _) = let no : Some how ≡ None = sym header ∙ no_header in absurd cc
 parses-same ls es fs d e (block _ _ _ _ how _ _ _ _ _ header _ _ _ _ _ _) (line _ _ _ _ _ _ no_header _ _) = let no : Some how ≡ None = sym header ∙ no_header in absurd cc
-parses-same ls es fs d e (block l lines rest _ how more _ end _ _ header parts are ends p is to) (block _ lines2 rest2 _ how2 more2 _ end2 _ _ header2 parts2 are2 ends2 p2 is2 to2) =
+parses-same ls es fs d e (block l lines rest _ how more _ end _ _ header parts are ends p i to) (block _ lines2 rest2 _ how2 more2 _ end2 _ _ header2 parts2 are2 ends2 p2 i2 to2) =
     let hows : how ≡ how2 = some_is how how2 (sym header ∙ header2) in
     let f = front-same (last_column (parse_line l).entries) [] lines lines2 rest rest2 are are2 ends ends2 (sym parts ∙ parts2) in
     let r = parses-same rest more more2 end end2 p (rw f.1 p2) in
-    (rw (is, hows, f.0, r.0) (sym is2), rw (to, hows, f.0, f.1, r.1) (sym to2))
+    (rw (i, hows, f.0, r.0) (sym i2), rw (to, hows, f.0, f.1, r.1) (sym to2))
 
 -- ---- the least of a list
 

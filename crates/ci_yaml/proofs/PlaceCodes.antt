@@ -206,7 +206,8 @@ first-code : (kind : Kind) (name : List ℕ) (e : Entry) (b : Bool) → e.head �
 first-code kind name e b head is =
     let l : ℕ = level_of kind e.column in
     let d : Bool = deep_at 0 (is_node e.given) in
-    by b (code-by e [] kind name b false d head (rw is (or-false b)) (kind-below kind e.column name [] None [] refl tt) (ap (λ m. deep_at m (is_node e.given)) (above-is l [] None [] refl ∙ no-levels l)))
+    by b (code-by e [] kind name b false d head (rw is (or-false b)) (kind-below kind e.column name [] None [] refl tt)
+    (ap (λ m. deep_at m (is_node e.given)) (above-is l [] None [] refl ∙ no-levels l)))
   where
     or-false : (t : Bool) → (t || false) ≡ t
     or-false t = grind arith

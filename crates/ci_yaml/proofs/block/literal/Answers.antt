@@ -15,4 +15,5 @@ returns-in_ok-push_lines-in-Clip c = λ column are.
 pub returns-in_ok-push_stripped-in-Strip : goal.returns-in_ok-push_stripped-in-Strip
 returns-in_ok-push_stripped-in-Strip c = λ column are.
     let front = texts-front c.kept_len.result c.args.lines.now c.kept_len.ensures.value in
-    rw (c.in_ok-push_stripped-in-Strip.ensures, c.new-text.ensures.bytes, c.block_indent-indent.ensures, c.in-Strip.is, front) (strip-is_literal column (texts_of c.args.lines.now) are)
+    rw (c.in_ok-push_stripped-in-Strip.ensures, c.new-text.ensures.bytes, c.block_indent-indent.ensures, c.in-Strip.is, front)
+    (strip-is_literal column (texts_of c.args.lines.now) are)
