@@ -14,7 +14,7 @@ ListsAny [] = Unit {0}
 ListsAny (r ∷ rs) = Lists (map (λ found. found.0) (r ∷ rs))
 
 lists-any : (path : List ℕ) → ListsAny (routes_at path)
-lists-any path = on-path ListsAny tt (λ m w. refl) (λ id key. refl) (λ id key. refl) path
+lists-any path = on-path ListsAny tt (λ m w. refl) (λ m l w v is. refl) path
 
 methods-in : Asked → List Method
 methods-in no_route = []

@@ -3,7 +3,7 @@ use Rattle.ci_http_messages.specs.Prelude.{Tells, TakesFront, empty_line, head_l
 use Rattle.ci_http_messages.specs.Prelude.{MAX_HEAD_LINES}
 use Rattle.std.specs.Io.KnownBytes.{Consumes, IsAtEnd}
 use Rattle.std.proofs.Common.{◌≡◌, ℕ, zero, suc, ◌+◌, ◌-◌, ◌<◌, ◌≤◌, Bool, true, false, List, [], ◌∷◌, ◌++◌, length, take, drop, refl, sym, ◌∙◌, ap, subst, arith, length-drop}
-use Rattle.std.proofs.Common.{length-take, length-append, append_assoc, get_or, nat_eq, nat_lt, if◌then◌else◌, Option, Some, None, option_map, count_by}
+use Rattle.std.proofs.Common.{length-take, length-append, append_assoc, get_or, nat_eq, nat_lt, inl, inr, ◌⊎◌, if◌then◌else◌, Option, Some, None, option_map, count_by}
 use Rattle.std.proofs.lemmas.List.{take-append-le, take-take, take_all, append-nil}
 use Rattle.std.specs.List.{starts_with, ends_with}
 use Rattle.std.specs.Cmp.Lexicographic.{pointwise, unequal, as_long}
@@ -84,31 +84,23 @@ head_len-snoc (x ∷ l) b h = snoc_at x l b h (head_len-snoc l b)
 take_fits : (k : ℕ) (l : List ℕ) → length (take k l) ≤ length l
 take_fits k l = omega (arith, length-take k l)
 
-bounds_at : (x : ℕ) (l : List ℕ) (n : ℕ) → ((m : ℕ) → head_len l ≡ Some m → (4 ≤ m) × (m ≤ length l))
-    → (s : Bool) (o : Option ℕ) → starts (x ∷ l) ≡ s → head_len l ≡ o → next s o ≡ Some n → (4 ≤ n) × (n ≤ suc (length l))
-bounds_at x l n ih true o p q e =
-    let long = as_long nat_eq empty_line (take 4 (x ∷ l)) p in
-    let n4 : 4 ≡ n = cc in
-    let fits = take_fits 4 (x ∷ l) in
-    (omega arith, omega arith)
-bounds_at x l n ih false None p q e = cc
-bounds_at x l n ih false (Some m) p q e =
-    let b = ih m q in
-    let same : suc m ≡ n = cc in
-    (omega arith, omega arith)
+-- where the head ends, it begins here or goes on
+parts : (s : Bool) (o : Option ℕ) (n : ℕ) → next s o ≡ Some n → ((s ≡ true) × (4 ≡ n)) ⊎ ((s ≡ false) × (m : ℕ) × (o ≡ Some m) × (suc m ≡ n))
+parts true o n e = inl (refl, cc)
+parts false None n e = cc
+parts false (Some m) n e = inr (refl, m, refl, cc)
 
 -- a head has at least four bytes, and ends in the text
 pub head_len-bounds : (l : List ℕ) (n : ℕ) → head_len l ≡ Some n → (4 ≤ n) × (n ≤ length l)
 head_len-bounds [] n h = cc
-head_len-bounds (x ∷ l) n h = bounds_at x l n (head_len-bounds l) (starts (x ∷ l)) (head_len l) refl refl h
-
-append_at : (x : ℕ) (l more : List ℕ) (n : ℕ) → ((m : ℕ) → head_len l ≡ Some m → head_len (l ++ more) ≡ Some m)
-    → starts ((x ∷ l) ++ more) ≡ starts (x ∷ l)
-    → (s : Bool) (o : Option ℕ) → starts (x ∷ l) ≡ s → head_len l ≡ o → next s o ≡ Some n → head_len ((x ∷ l) ++ more) ≡ Some n
-append_at x l more n ih same true o p q e = step x (l ++ more) true (same ∙ p) ∙ e
-append_at x l more n ih same false None p q e = cc
-append_at x l more n ih same false (Some m) p q e =
-    step x (l ++ more) false (same ∙ p) ∙ ap (option_map suc) (ih m q) ∙ e
+head_len-bounds (x ∷ l) n h =
+    elim (parts (starts (x ∷ l)) (head_len l) n h) [
+      | inl (p, same) ↦
+          let long = as_long nat_eq empty_line (take 4 (x ∷ l)) p in
+          let fits = take_fits 4 (x ∷ l) in
+          (omega arith, omega arith)
+      | inr (p, m, q, same) ↦ let b = head_len-bounds l m q in (omega arith, omega arith)
+    ]
 
 -- what follows does not change where the head ends
 pub head_len-append : (l more : List ℕ) (n : ℕ) → head_len l ≡ Some n → head_len (l ++ more) ≡ Some n
@@ -116,23 +108,24 @@ head_len-append [] more n h = cc
 head_len-append (x ∷ l) more n h =
     let b = head_len-bounds (x ∷ l) n h in
     let same = ap (λ m. pointwise nat_eq empty_line m) (take-append-le 4 (x ∷ l) more (omega arith)) in
-    append_at x l more n (head_len-append l more) same (starts (x ∷ l)) (head_len l) refl refl h
-
-front_at : (x : ℕ) (l : List ℕ) (n : ℕ) → ((m : ℕ) → head_len l ≡ Some m → head_len (take m l) ≡ Some m)
-    → (s : Bool) (o : Option ℕ) → starts (x ∷ l) ≡ s → head_len l ≡ o → next s o ≡ Some n → head_len (take n (x ∷ l)) ≡ Some n
-front_at x l n ih true o p q e =
-    let same = ap (λ m. pointwise nat_eq empty_line (x ∷ m)) (take-take 3 3 l (omega arith)) in
-    subst (λ k. head_len (take k (x ∷ l)) ≡ Some k) (let n4 : 4 ≡ n = cc in n4) (step x (take 3 l) true (same ∙ p))
-front_at x l n ih false None p q e = cc
-front_at x l n ih false (Some m) p q e =
-    let b = head_len-bounds l m q in
-    let same = ap (λ t. pointwise nat_eq empty_line (x ∷ t)) (take-take 3 m l (omega arith)) in
-    subst (λ k. head_len (take k (x ∷ l)) ≡ Some k) (let n1 : suc m ≡ n = cc in n1) (step x (take m l) false (same ∙ p) ∙ ap (option_map suc) (ih m q))
+    elim (parts (starts (x ∷ l)) (head_len l) n h) [
+      | inl (p, is) ↦ step x (l ++ more) true (same ∙ p) ∙ ap Some is
+      | inr (p, m, q, is) ↦ step x (l ++ more) false (same ∙ p) ∙ ap (option_map suc) (head_len-append l more m q) ∙ ap Some is
+    ]
 
 -- the bytes up to and with the end of the head have it too
 pub head_len-front : (l : List ℕ) (n : ℕ) → head_len l ≡ Some n → head_len (take n l) ≡ Some n
 head_len-front [] n h = cc
-head_len-front (x ∷ l) n h = front_at x l n (head_len-front l) (starts (x ∷ l)) (head_len l) refl refl h
+head_len-front (x ∷ l) n h =
+    elim (parts (starts (x ∷ l)) (head_len l) n h) [
+      | inl (p, is) ↦
+          let same = ap (λ m. pointwise nat_eq empty_line (x ∷ m)) (take-take 3 3 l (omega arith)) in
+          subst (λ k. head_len (take k (x ∷ l)) ≡ Some k) is (step x (take 3 l) true (same ∙ p))
+      | inr (p, m, q, is) ↦
+          let b = head_len-bounds l m q in
+          let same = ap (λ t. pointwise nat_eq empty_line (x ∷ t)) (take-take 3 m l (omega arith)) in
+          subst (λ k. head_len (take k (x ∷ l)) ≡ Some k) is (step x (take m l) false (same ∙ p) ∙ ap (option_map suc) (head_len-front l m q))
+    ]
 
 -- a head within the limit is found
 head_in : (limit : ℕ) (v rest : List ℕ) (n : ℕ) → head_len v ≡ Some n → length v ≤ limit → head_len (take limit (v ++ rest)) ≡ Some n
@@ -216,36 +209,28 @@ taken_more old mid new v w b n e t a same test fails = record {
   size = ap length same ∙ length-append v (b ∷ []) ∙ ap (λ k. k + 1) t.size;
 }
 
--- one byte more, and the head is whole
+-- the head is whole
 pub record Whole (old new : Option (List ℕ)) (head : List ℕ) : Type 0 where
   pub told : Consumes old new head
   pub found : head_len head ≡ Some (length head)
   pub size : length head ≤ MAX_HEAD_BYTES
 
-pub taken_last : (old mid new : Option (List ℕ)) (v w : List ℕ) (b n : ℕ) (e : Bool) → Taken old mid v n → Consumes mid new (b ∷ [])
-    → w ≡ v ++ b ∷ [] → e ≡ ends_with nat_eq w empty_line → e ≡ true → n < MAX_HEAD_BYTES → Whole old new w
-taken_last old mid new v w b n e t a same test holds less =
+-- the byte was read into a buffer of one
+pub whole_read : (old mid new : Option (List ℕ)) (v w buf : List ℕ) (m n : ℕ) (e : Bool) → Taken old mid v n → (m ≡ 0 → ⊥) → m ≤ length buf → length buf ≡ 1
+    → Consumes mid new (take m buf) → w ≡ v ++ get_or buf 0 0 ∷ [] → e ≡ ends_with nat_eq w empty_line → e ≡ true → n < MAX_HEAD_BYTES → Whole old new w
+whole_read old mid new v w buf m n e t some room one got same test holds less =
+    let b = get_or buf 0 0 in
+    let last = subst (λ l. Consumes mid new l) (one_byte m buf some room one) got in
     let size : length w ≡ length v + 1 = ap length same ∙ length-append v (b ∷ []) in record {
-      told = subst (λ l. Consumes old new l) (sym same) (consumes_more old mid new v (b ∷ []) t.told a);
+      told = subst (λ l. Consumes old new l) (sym same) (consumes_more old mid new v (b ∷ []) t.told last);
       found = ap head_len same ∙ head_len-snoc v b t.none ∙ ap (pick (length v + 1)) (ap ends (sym same) ∙ sym test ∙ holds) ∙ ap (λ k. Some k) (sym size);
       size = let s = t.size in omega arith;
     }
 
--- the same, where the byte was read into a buffer of one
-pub whole_read : (old mid new : Option (List ℕ)) (v w buf : List ℕ) (m n : ℕ) (e : Bool) → Taken old mid v n → (m ≡ 0 → ⊥) → m ≤ length buf → length buf ≡ 1
-    → Consumes mid new (take m buf) → w ≡ v ++ get_or buf 0 0 ∷ [] → e ≡ ends_with nat_eq w empty_line → e ≡ true → n < MAX_HEAD_BYTES → Whole old new w
-whole_read old mid new v w buf m n e t some room one got same test holds less =
-    taken_last old mid new v w (get_or buf 0 0) n e t (subst (λ l. Consumes mid new l) (one_byte m buf some room one) got) same test holds less
-
-pub whole_head : (old new : Option (List ℕ)) (head : List ℕ) → Whole old new head → count_by is_line_feed head ≤ MAX_HEAD_LINES
-    → Tells old new (λ bytes rest. opening_of bytes ≡ (opened head, rest))
-whole_head old new head w lines =
-    tells_from (λ bytes rest. opening_of bytes ≡ (opened head, rest)) old new head w.told (λ rest e. opening-front head rest false w.found w.size (grind (arith, nat_tests, lines)))
-
-pub whole_lines : (old new : Option (List ℕ)) (head : List ℕ) → Whole old new head → MAX_HEAD_LINES < count_by is_line_feed head
-    → Tells old new (λ bytes rest. opening_of bytes ≡ (too_large, rest))
-whole_lines old new head w lines =
-    tells_from (λ bytes rest. opening_of bytes ≡ (too_large, rest)) old new head w.told (λ rest e. opening-front head rest true w.found w.size (grind (arith, nat_tests, lines)))
+pub whole_opens : (old new : Option (List ℕ)) (head : List ℕ) (many : Bool) → Whole old new head → nat_lt MAX_HEAD_LINES (count_by is_line_feed head) ≡ many
+    → Tells old new (λ bytes rest. opening_of bytes ≡ (if many then (too_large, rest) else (opened head, rest)))
+whole_opens old new head many w lines =
+    tells_from (λ bytes rest. opening_of bytes ≡ (if many then (too_large, rest) else (opened head, rest))) old new head w.told (λ rest e. opening-front head rest many w.found w.size lines)
 
 pub taken_all : (old new : Option (List ℕ)) (v : List ℕ) (n : ℕ) → Taken old new v n → n ≡ MAX_HEAD_BYTES
     → Tells old new (λ bytes rest. opening_of bytes ≡ (too_large, rest))

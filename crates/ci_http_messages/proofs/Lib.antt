@@ -1,3 +1,4 @@
+pub mod Utf8
 pub mod Heads
 pub mod Lines
 pub mod Values

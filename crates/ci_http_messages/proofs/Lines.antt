@@ -3,7 +3,7 @@ use Rattle.std.proofs.Common.{◌≡◌, ℕ, ◌+◌, ◌≤◌, List, [], ◌�
 use Rattle.std.specs.List.{flat_map}
 use Rattle.std.proofs.lemmas.List.{append-nil}
 use Rattle.std.proofs.lemmas.List.Sums.{sum_by-append}
-use Rattle.httparse.specs.Grammar.{LineEnd, crlf, lf, print_end, Field, print_field, print_section, RequestHead, print_blank, print_version, ReadsRequest}
+use Rattle.httparse.specs.Grammar.{LineEnd, crlf, lf, print_end, Field, print_field, RequestHead, ReadsRequest}
 use Rattle.httparse.specs.Spans.{RequestOverflows}
 use Rattle.httparse.proofs.GrammarLemmas.{print_request-append, request_unique}
 use Rattle.ci_http_messages.specs.Prelude.{is_line_feed, MAX_HEAD_LINES}
@@ -30,32 +30,11 @@ feeds_fields (f ∷ fs) =
     let same : flat_map print_field (f ∷ fs) ≡ print_field f ++ flat_map print_field fs = refl in
     omega (arith, ap feeds same, feeds-append (print_field f) (flat_map print_field fs), feeds_field f, feeds_fields fs)
 
-feeds_section : (fs : List Field) (last : LineEnd) → length fs + 1 ≤ feeds (print_section fs last)
-feeds_section fs last = omega (arith, feeds-append (flat_map print_field fs) (print_end last), feeds_fields fs, feeds_end last)
-
 -- a head has a line feed for each field, one for its first line and one for its end
 pub feeds_head : (buf : List ℕ) (h : RequestHead) (rest : List ℕ) → ReadsRequest buf h rest → length h.fields + 2 ≤ feeds buf
 feeds_head buf h rest reads =
-    let section = print_section h.fields h.last in
-    let line = print_end h.line_end ++ (section ++ rest) in
-    let version = print_version h.minor ++ line in
-    let target = h.target ++ 32 ∷ version in
-    let method = h.method ++ 32 ∷ target in
-    let whole : buf ≡ print_blank h.blank ++ method = reads.1 ∙ print_request-append h rest in
-    omega (
-      arith,
-      ap feeds whole,
-      feeds_after (print_blank h.blank) method,
-      feeds_after h.method (32 ∷ target),
-      feeds_after (32 ∷ []) target,
-      feeds_after h.target (32 ∷ version),
-      feeds_after (32 ∷ []) version,
-      feeds_after (print_version h.minor) line,
-      feeds-append (print_end h.line_end) (section ++ rest),
-      feeds_end h.line_end,
-      feeds-append section rest,
-      feeds_section h.fields h.last,
-    )
+    let all = simp feeds-append at (ap feeds (reads.1 ∙ print_request-append h rest)) in
+    omega (arith, all, feeds_end h.line_end, feeds_fields h.fields, feeds_end h.last)
 
 -- a head that ends before the bytes do is the only one
 pub not_whole : (buf : List ℕ) (h k : RequestHead) (n : ℕ) → ReadsRequest buf h (drop n buf) → n ≤ length buf → (n ≡ length buf → ⊥)

@@ -1,25 +1,24 @@
 -- What `get` gives of a match is the segment at the slot of that name.
-use Rattle.std.proofs.Common.{◌≡◌, ℕ, zero, suc, ◌<◌, List, [], ◌∷◌, length, get_or, Option, Some, Bool, true, false, cond, refl, sym, ap, ◌∙◌, arith, ltb, ◌&&◌}
-use Rattle.std.proofs.lemmas.Bool.Decides.{nat_tests}
+use Rattle.std.proofs.Common.{◌≡◌, ℕ, zero, suc, ◌<◌, List, [], ◌∷◌, length, map, get_or, Option, Some, Bool, true, refl, sym, ap, ◌∙◌, arith, ltb, ◌&&◌}
+use Rattle.std.specs.List.{list_all}
+use Rattle.std.proofs.lemmas.Bool.{and_parts, ltb-true}
 use Rattle.std.specs.Str.{IsUtf8}
 use Rattle.std.proofs.lemmas.Str.{IsUtf8-from_ascii}
 use Rattle.matchit.specs.Params.{walk, part_of, named, AllText}
 use Rattle.matchit.specs.Rows.{RowsOf}
 use Rattle.matchit.specs.Router.{RouteOf}
 use Rattle.ci_http_messages.specs.Prelude.{fits, tokens, tidy, first_fit, Piece, fixed, slot, pieces_fit, slot_names, slot_texts, text_at, text_of, segments}
-use Rattle.ci_http_messages.proofs.Walks.{and-l, and-r}
+use Rattle.ci_http_messages.proofs.Walks.{cases, and-l, and-r}
 use Rattle.ci_http_messages.proofs.Splits.{plain, fits-pieces}
 use Rattle.ci_http_messages.proofs.Takes.{seconds, slots, walk-taken}
 use Rattle.ci_http_messages.proofs.Texts.{AllUtf8, plain_tokens, taken-utf8}
 use Rattle.ci_http_messages.proofs.Slots.{takes-pieces}
 
 abbrev pub firsts : List (List ℕ × List ℕ) → List (List ℕ)
-firsts [] = []
-firsts (q ∷ rest) = q.0 ∷ firsts rest
+firsts pairs = map (λ pair. pair.0) pairs
 
 abbrev pub names_of : List ℕ → List (ℕ × ℕ) → List (List ℕ)
-names_of text [] = []
-names_of text (n ∷ rest) = part_of text n.0 n.1 ∷ names_of text rest
+names_of text names = map (λ name. part_of text name.0 name.1) names
 
 walk-names : (P T A : List ℕ) (names : List (ℕ × ℕ)) (tok at : ℕ) → firsts (walk P T A names tok at) ≡ names_of T names
 walk-names P T A [] tok at = refl
@@ -44,19 +43,15 @@ named-text key (slot name ∷ ps) (s ∷ ss) (q ∷ l) f g =
     rw (a, b, named-text key ps ss l c d) refl
 
 abbrev pub all_ascii : List ℕ → Bool
-all_ascii [] = true
-all_ascii (x ∷ l) = ltb x 128 && all_ascii l
+all_ascii l = list_all (λ x. ltb x 128) l
 
 ascii-is : (l : List ℕ) → all_ascii l ≡ true → (i : ℕ) → get_or l i 0 < 128
 ascii-is [] h i = omega arith
-ascii-is (x ∷ l) h zero =
-    let a = and-l (ltb x 128) _ h in
-    grind (arith, nat_tests)
+ascii-is (x ∷ l) h zero = ltb-true x 128 (and-l (ltb x 128) _ h)
 ascii-is (x ∷ l) h (suc i) = ascii-is l (and-r (ltb x 128) _ h) i
 
 abbrev pub utf8_names : List (List ℕ) → Bool
-utf8_names [] = true
-utf8_names (n ∷ rest) = all_ascii n && utf8_names rest
+utf8_names names = list_all all_ascii names
 
 names-utf8 : (l : List (List ℕ)) → utf8_names l ≡ true → AllUtf8 l
 names-utf8 [] h = tt
@@ -85,15 +80,11 @@ on-pattern key e P path answer q a n = rw q (a, n)
 
 row-gives : {T : Type 0} (key t : List ℕ) (e : RouteOf T) (ps : List Piece) (p : List ℕ) → IsRow t e ps → fits t (47 ∷ p) ≡ true → IsUtf8 (47 ∷ p) → Gives key e (47 ∷ p) (text_at key ps (segments p))
 row-gives key t e ps p r h u =
-    let c1 = and-l (plain ps) _ r.4 in
-    let c1r = and-r (plain ps) _ r.4 in
-    let c2 = and-l (tidy (tokens ps)) _ c1r in
-    let c2r = and-r (tidy (tokens ps)) _ c1r in
-    let c3 = and-l (plain_tokens (tokens ps)) _ c2r in
-    let c3r = and-r (plain_tokens (tokens ps)) _ c2r in
-    let c4 = and-l (ltb (length (tokens ps)) 18446744073709551615) _ c3r in
-    let c5 = and-r (ltb (length (tokens ps)) 18446744073709551615) _ c3r in
-    let short : length (tokens ps) < 18446744073709551615 = grind (arith, nat_tests) in
+    let (c1, r1) = and_parts (plain ps) _ r.4 in
+    let (c2, r2) = and_parts (tidy (tokens ps)) _ r1 in
+    let (c3, r3) = and_parts (plain_tokens (tokens ps)) _ r2 in
+    let (c4, c5) = and_parts (ltb (length (tokens ps)) 18446744073709551615) _ r3 in
+    let short = ltb-true (length (tokens ps)) 18446744073709551615 c4 in
     let f : fits (tokens ps) (47 ∷ p) ≡ true = rw r.0 at h in
     let s = walk-taken (tokens ps) e.text (47 ∷ p) short (tokens ps) (47 ∷ p) e.names 0 0 refl refl (omega arith) f c2 r.3 in
     let n = walk-names (tokens ps) e.text (47 ∷ p) e.names 0 0 in
@@ -106,19 +97,11 @@ pub rows-give : {T K : Type 0} (key : List ℕ) (rs : RowsOf (RouteOf T)) (os : 
     → first_fit rs (47 ∷ p) ≡ Some e → Gives key e (47 ∷ p) (text_of key os (segments p))
 rows-give key [] os p e a u h = cc
 rows-give key (r ∷ rs) [] p e a u h = elim a [ ]
-rows-give {T} key ((t, d) ∷ rs) ((ps, k) ∷ os) p e a u h =
-    by (fits t (47 ∷ p)) refl h (rows-give key rs os p e a.1 u)
-  where
-    same : fits t (47 ∷ p) ≡ pieces_fit ps (segments p)
-    same = rw a.0.0 (fits-pieces ps p (and-l (plain ps) _ a.0.4))
-
-    by : (v : Bool) → fits t (47 ∷ p) ≡ v → cond v (Some d) (first_fit rs (47 ∷ p)) ≡ Some e → (first_fit rs (47 ∷ p) ≡ Some e → Gives key e (47 ∷ p) (text_of key os (segments p)))
-        → Gives key e (47 ∷ p) (text_of key ((ps, k) ∷ os) (segments p))
-    by true q h ih =
-        let de : d ≡ e = cc in
-        let g = row-gives key t d ps p a.0 q u in
-        let w : pieces_fit ps (segments p) ≡ true = sym same ∙ q in
-        rw (w, ← de) g
-    by false q h ih =
-        let w : pieces_fit ps (segments p) ≡ false = sym same ∙ q in
-        rw w (ih h)
+rows-give key ((t, d) ∷ rs) ((ps, k) ∷ os) p e a u h =
+    let same : fits t (47 ∷ p) ≡ pieces_fit ps (segments p) = rw a.0.0 (fits-pieces ps p (and-l (plain ps) _ a.0.4)) in
+    cases (fits t (47 ∷ p)) (
+    λ q.
+    let de : d ≡ e = let k = rw q at h in cc in
+    rw (sym same ∙ q, ← de) (row-gives key t d ps p a.0 q u)
+    )
+    (λ q. rw (sym same ∙ q) (rows-give key rs os p e a.1 u (rw q at h)))

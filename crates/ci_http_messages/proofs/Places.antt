@@ -1,7 +1,7 @@
 -- The first empty line of a text, place by place.
 use Rattle.std.proofs.Common.{◌≡◌, ℕ, ◌+◌, ◌-◌, ◌<◌, ◌≤◌, Bool, true, false, List, [], length, take, drop, refl, sym, ◌∙◌, ap, arith, length-drop, get_or, nat_eq, if◌then◌else◌}
 use Rattle.std.proofs.Common.{suc, min, count_by, Option, Some, None, option_map}
-use Rattle.std.proofs.lemmas.Bool.{cond-true, cond-false, lt-ltb, le-ltb}
+use Rattle.std.proofs.lemmas.Bool.{false_from_ne_true, cond-true, cond-false, lt-ltb, le-ltb}
 use Rattle.std.proofs.lemmas.List.{drop_more, take_min, take_all, get_or-drop}
 use Rattle.std.proofs.lemmas.Option.{get_or_from_slice_get}
 use Rattle.std.specs.List.{starts_with, ends_with, slice_get}
@@ -48,10 +48,6 @@ left_there i text = take_all (length text - i) (drop i text) (let l = length-dro
 
 -- ---- the last byte
 
-not_so : (b : Bool) → (b ≡ true → ⊥) → false ≡ b
-not_so true never = absurd (never refl)
-not_so false never = refl
-
 -- the empty line ends with a line feed, and so does what ends with it
 ends_by_feed : (head : List ℕ) → ends_with nat_eq head empty_line ≡ true → get_or head (length head - 1) 0 ≡ 10
 ends_by_feed head ends =
@@ -61,4 +57,4 @@ ends_by_feed head ends =
 
 -- what ends with another byte doesn't end with it
 pub ends_otherwise : (head : List ℕ) (b : ℕ) → Some b ≡ slice_get head (length head - 1) → (b ≡ 10 → ⊥) → false ≡ ends_with nat_eq head empty_line
-ends_otherwise head b is other = not_so (ends_with nat_eq head empty_line) (λ ends. other (sym (get_or_from_slice_get head (length head - 1) b 0 (sym is)) ∙ ends_by_feed head ends))
+ends_otherwise head b is other = sym (false_from_ne_true (ends_with nat_eq head empty_line) (λ ends. other (sym (get_or_from_slice_get head (length head - 1) b 0 (sym is)) ∙ ends_by_feed head ends)))

@@ -19,14 +19,14 @@ use Rattle.httparse.specs.Spans.{name_and_value}
 use Rattle.httparse.proofs.TrimLemmas.{AllPass-reverse, skip_ows_no, trim_ows_space}
 use Rattle.httparse.proofs.GrammarLemmas.{print_response-append}
 use Rattle.ci_machine.specs.declared.reply.Method.{Method}
-use Rattle.ci_machine.specs.declared.reply.Method.TheVariants.{Delete, Get, Patch, Post, Put}
+use Rattle.ci_machine.specs.declared.reply.Method.TheVariants.{Delete}
 use Rattle.ci_machine.specs.declared.reply.Methods.{Methods}
 use Rattle.ci_machine.specs.declared.reply.Body.{Body}
-use Rattle.ci_machine.specs.declared.reply.Body.TheVariants.{Json, Plain}
+use Rattle.ci_machine.specs.declared.reply.Body.TheVariants.{Json}
 use Rattle.ci_machine.specs.declared.reply.JobStatus.{JobStatus}
-use Rattle.ci_machine.specs.declared.reply.JobStatus.TheVariants.{Running, Success, Failed, Canceled}
+use Rattle.ci_machine.specs.declared.reply.JobStatus.TheVariants.{Running}
 use Rattle.ci_machine.specs.declared.reply.HttpStatus.{HttpStatus}
-use Rattle.ci_machine.specs.declared.reply.HttpStatus.TheVariants.{Fine, Created, Accepted, NoContent, BadRequest, Unauthorized, Forbidden, NotFound, MethodNotAllowed, LengthRequired, PayloadTooLarge, RangeNotSatisfiable, HeaderFieldsTooLarge, NotImplemented, ServiceUnavailable}
+use Rattle.ci_machine.specs.declared.reply.HttpStatus.TheVariants.{Fine}
 use Rattle.ci_machine.specs.declared.reply.Reply.{Reply}
 use Rattle.ci_machine.specs.Reply.{status_text}
 use Rattle.ci_machine.specs.Prelude.{body_text}
@@ -54,102 +54,97 @@ IsStatus s =
 
 is_status : (s : HttpStatus) → IsStatus s
 is_status Fine = (refl, refl, refl)
-is_status Created = (refl, refl, refl)
-is_status Accepted = (refl, refl, refl)
-is_status NoContent = (refl, refl, refl)
-is_status BadRequest = (refl, refl, refl)
-is_status Unauthorized = (refl, refl, refl)
-is_status Forbidden = (refl, refl, refl)
-is_status NotFound = (refl, refl, refl)
-is_status MethodNotAllowed = (refl, refl, refl)
-is_status LengthRequired = (refl, refl, refl)
-is_status PayloadTooLarge = (refl, refl, refl)
-is_status RangeNotSatisfiable = (refl, refl, refl)
-is_status HeaderFieldsTooLarge = (refl, refl, refl)
-is_status NotImplemented = (refl, refl, refl)
-is_status ServiceUnavailable = (refl, refl, refl)
+is_status _ = (refl, refl, refl)
 
--- fields of values that a line can have
-none_well : All IsField []
-none_well k d l = absurd (omega arith)
-
-one_well : (f : Field) → IsField f → All IsField (f ∷ [])
-one_well f h zero d l = h
-one_well f h (suc k) d l = absurd (omega arith)
-
-digit_value : (m : ℕ) → m < 10 → is_value ((48 + m) ∷ []) ≡ true
-digit_value m h = grind (arith, nat_tests)
+decimal_all : (test : ℕ → Bool) → ((m : ℕ) → m < 10 → list_all test ((48 + m) ∷ []) ≡ true) → (n : ℕ) → n < 2 ^ 64 → list_all test (decimal n) ≡ true
+decimal_all test digit = decimal_by_steps (λ m ds. list_all test ds ≡ true) digit
+    (λ m ds l h. list_all-append test ds ((48 + m % 10) ∷ []) ∙ ap (λ b. b && list_all test ((48 + m % 10) ∷ [])) h ∙ digit (m % 10) (omega arith))
 
 decimal_value : (n : ℕ) → n < 2 ^ 64 → is_value (decimal n) ≡ true
-decimal_value = decimal_by_steps (λ m ds. is_value ds ≡ true) digit_value
-    (λ m ds l h. list_all-append is_value_byte ds ((48 + m % 10) ∷ []) ∙ ap (λ b. b && is_value ((48 + m % 10) ∷ [])) h ∙ digit_value (m % 10) (omega arith))
+decimal_value = decimal_all is_value_byte (λ m h. grind (arith, nat_tests))
 
--- the fields of a reply's lines
+abbrev is_seen : ℕ → Bool
+is_seen b = not (is_ows b)
+
+not_blank : (b : Bool) → not b ≡ true → false ≡ b
+not_blank true h = cc
+not_blank false h = refl
+
+skip_none : (text : List ℕ) → list_all is_seen text ≡ true → skip_ows text ≡ text
+skip_none [] h = refl
+skip_none (x ∷ text) h = skip_ows_no {b = x} {all = x ∷ text} {rest = text} refl (not_blank (is_ows x) (and_parts (is_seen x) (list_all is_seen text) h).0)
+
+decimal_seen : (n : ℕ) → n < 2 ^ 64 → list_all is_seen (decimal n) ≡ true
+decimal_seen = decimal_all is_seen (λ m h. grind (arith, nat_tests))
+
+trim_decimal : (n : ℕ) → n < 2 ^ 64 → trim_ows (32 ∷ decimal n) ≡ decimal n
+trim_decimal n h =
+    let seen = decimal_seen n h in
+    let back = list_all-from_AllPass is_seen (reverse (decimal n)) (AllPass-reverse is_seen (decimal n) (AllPass-from_list_all is_seen (decimal n) seen)) in
+    trim_ows_space (decimal n) (skip_none (decimal n) seen) (skip_none (reverse (decimal n)) back)
+
+-- the values of Content-Length
+abbrev lengths : List Field → List (List ℕ)
+lengths fields = values_of (codes "content-length") (map name_and_value fields)
+
+abbrev print : List Field → List ℕ
+print fields = flat_map print_field fields
+
+-- the fields are well formed, print these lines, and have these values of Content-Length
+record AreLines (fields : List Field) (lines : List ℕ) (values : List (List ℕ)) : Type 0 where
+  printed : print fields ≡ lines
+  well : All IsField fields
+  values_are : lengths fields ≡ values
+
+no_line : AreLines [] [] []
+no_line = record { printed = refl; well = λ k d l. absurd (omega arith); values_are = refl }
+
+a_line : (name value : List ℕ) (values : List (List ℕ)) → 0 < length name → list_all is_token_byte name ≡ true → is_value value ≡ true → lengths (field name value ∷ []) ≡ values
+    → AreLines (field name value ∷ []) (name ++ (58 ∷ 32 ∷ (value ++ crlf))) values
+a_line name value values some n v e = record { printed = simp (append_assoc, append-nil); well = one_well; values_are = e }
+  where
+    one_well : All IsField (field name value ∷ [])
+    one_well zero d l = is_field name value some n v
+    one_well (suc k) d l = absurd (omega arith)
+
+and_then : {a b : List Field} {l k : List ℕ} {v w : List (List ℕ)} → AreLines a l v → AreLines b k w → AreLines (a ++ b) (l ++ k) (v ++ w)
+and_then {a} {b} x y = record {
+  printed = flat_map-append print_field a b ∙ (λ i. x.printed i ++ y.printed i);
+  well = All-append IsField a b x.well y.well;
+  values_are = ap (values_of (codes "content-length")) (map-append name_and_value a b) ∙ values-append (codes "content-length") (map name_and_value a) (map name_and_value b)
+      ∙ (λ i. x.values_are i ++ y.values_are i);
+}
+
+-- each line of a reply
 abbrev job_status_fields : Option JobStatus → List Field
 job_status_fields None = []
 job_status_fields (Some s) = field (codes "Job-Status") (status_text s) ∷ []
+
+job_status_value : (s : JobStatus) → is_value (status_text s) ≡ true
+job_status_value Running = refl
+job_status_value _ = refl
+
+job_status_is : (s : Option JobStatus) → AreLines (job_status_fields s) (job_status_line s) []
+unfolding is_token_byte
+job_status_is None = no_line
+job_status_is (Some s) = a_line (codes "Job-Status") (status_text s) [] (omega arith) refl (job_status_value s) refl
 
 abbrev range_fields : Option ℕ → List Field
 range_fields None = []
 range_fields (Some n) = field (codes "Range") (codes "0-" ++ decimal n) ∷ []
 
+range_is : (n : Option ℕ) → IfSome n (λ k. k < 2 ^ 64) → AreLines (range_fields n) (range_line n) []
+unfolding is_token_byte
+range_is None h = no_line
+range_is (Some n) h = a_line (codes "Range") (codes "0-" ++ decimal n) [] (omega arith) refl (decimal_value n h) refl
+
 abbrev allow_fields : Option Methods → List Field
 allow_fields None = []
 allow_fields (Some methods) = field (codes "Allow") (allow_text methods) ∷ []
 
-abbrev type_fields : List ℕ → List ℕ → List Field
-type_fields kind [] = []
-type_fields kind (b ∷ body) = field (codes "Content-Type") kind ∷ []
-
-abbrev length_fields : Bool → ℕ → List Field
-length_fields none n = if none then [] else field (codes "Content-Length") (decimal n) ∷ []
-
-abbrev print : List Field → List ℕ
-print fields = flat_map print_field fields
-
-job_status_print : (s : Option JobStatus) → print (job_status_fields s) ≡ job_status_line s
-job_status_print None = refl
-job_status_print (Some s) = append-nil (job_status_line (Some s))
-
-range_print : (n : Option ℕ) → print (range_fields n) ≡ range_line n
-range_print None = refl
-range_print (Some n) = append-nil (range_line (Some n))
-
-allow_print : (methods : Option Methods) → print (allow_fields methods) ≡ allow_line methods
-allow_print None = refl
-allow_print (Some methods) = append-nil (allow_line (Some methods))
-
-type_print : (kind body : List ℕ) → print (type_fields kind body) ≡ type_line kind body
-type_print kind [] = refl
-type_print kind (b ∷ body) = append-nil (type_line kind (b ∷ body))
-
-length_print : (none : Bool) (n : ℕ) → print (length_fields none n) ≡ (if none then [] else codes "Content-Length: " ++ decimal n ++ crlf)
-length_print true n = refl
-length_print false n = append-nil (codes "Content-Length: " ++ decimal n ++ crlf)
-
--- and each of them is well formed
-job_status_value : (s : JobStatus) → is_value (status_text s) ≡ true
-job_status_value Running = refl
-job_status_value Success = refl
-job_status_value Failed = refl
-job_status_value Canceled = refl
-
-job_status_well : (s : Option JobStatus) → All IsField (job_status_fields s)
-unfolding is_token_byte
-job_status_well None = none_well
-job_status_well (Some s) = one_well _ (is_field (codes "Job-Status") (status_text s) (omega arith) refl (job_status_value s))
-
-range_well : (n : Option ℕ) → IfSome n (λ k. k < 2 ^ 64) → All IsField (range_fields n)
-unfolding is_token_byte
-range_well None h = none_well
-range_well (Some n) h = one_well _ (is_field (codes "Range") (codes "0-" ++ decimal n) (omega arith) refl (decimal_value n h))
-
 method_value : (method : Method) → is_value (method_text method) ≡ true
 method_value Delete = refl
-method_value Get = refl
-method_value Patch = refl
-method_value Post = refl
-method_value Put = refl
+method_value _ = refl
 
 value_before : (method : Method) (behind : List ℕ) → is_value behind ≡ true → is_value (method_text method ++ behind) ≡ true
 value_before method behind h = list_all-append is_value_byte (method_text method) behind ∙ ap (λ b. b && is_value behind) (method_value method) ∙ h
@@ -158,29 +153,36 @@ allow_value : (first : Method) (second : Option Method) → is_value (allow_text
 allow_value first None = value_before first [] refl
 allow_value first (Some second) = value_before first _ (value_before second [] refl)
 
-allow_well : (methods : Option Methods) → All IsField (allow_fields methods)
+allow_is : (methods : Option Methods) → AreLines (allow_fields methods) (allow_line methods) []
 unfolding is_token_byte
-allow_well None = none_well
-allow_well (Some methods) = one_well _ (is_field (codes "Allow") (allow_text methods) (omega arith) refl (allow_value methods.first methods.second))
+allow_is None = no_line
+allow_is (Some methods) = a_line (codes "Allow") (allow_text methods) [] (omega arith) refl (allow_value methods.first methods.second) refl
+
+abbrev type_fields : List ℕ → List ℕ → List Field
+type_fields kind [] = []
+type_fields kind (b ∷ body) = field (codes "Content-Type") kind ∷ []
 
 type_value : (body : Option Body) → is_value (type_text body) ≡ true
-type_value None = refl
 type_value (Some (Json text)) = refl
-type_value (Some (Plain bytes)) = refl
+type_value _ = refl
 
-type_well : (kind body : List ℕ) → is_value kind ≡ true → All IsField (type_fields kind body)
+type_is : (kind body : List ℕ) → is_value kind ≡ true → AreLines (type_fields kind body) (type_line kind body) []
 unfolding is_token_byte
-type_well kind [] h = none_well
-type_well kind (b ∷ body) h = one_well _ (is_field (codes "Content-Type") kind (omega arith) refl h)
+type_is kind [] h = no_line
+type_is kind (b ∷ body) h = a_line (codes "Content-Type") kind [] (omega arith) refl h refl
 
-length_well : (none : Bool) (n : ℕ) → n < 2 ^ 64 → All IsField (length_fields none n)
-unfolding is_token_byte
-length_well true n h = none_well
-length_well false n h = one_well _ (is_field (codes "Content-Length") (decimal n) (omega arith) refl (decimal_value n h))
+abbrev length_fields : Bool → ℕ → List Field
+length_fields none n = if none then [] else field (codes "Content-Length") (decimal n) ∷ []
 
-close_well : All IsField (field (codes "Connection") (codes "close") ∷ [])
+length_is : (none : Bool) (n : ℕ) → n < 2 ^ 64
+    → AreLines (length_fields none n) (if none then [] else codes "Content-Length: " ++ decimal n ++ crlf) (if none then [] else decimal n ∷ [])
 unfolding is_token_byte
-close_well = one_well _ (is_field (codes "Connection") (codes "close") (omega arith) refl refl)
+length_is true n h = no_line
+length_is false n h = a_line (codes "Content-Length") (decimal n) (decimal n ∷ []) (omega arith) refl (decimal_value n h) (ap (λ v. v ∷ []) (trim_decimal n h))
+
+close_is : AreLines (field (codes "Connection") (codes "close") ∷ []) (codes "Connection: close\r\n") []
+unfolding is_token_byte
+close_is = a_line (codes "Connection") (codes "close") [] (omega arith) refl refl refl
 
 -- the head of a reply
 abbrev fields_of : Reply → List Field
@@ -199,42 +201,15 @@ head_of r = record {
   last = grammar.crlf;
 }
 
-all_well : (a b c d e f : List Field) → All IsField a → All IsField b → All IsField c → All IsField d → All IsField e → All IsField f
-    → All IsField (a ++ b ++ c ++ d ++ e ++ f)
-all_well a b c d e f u v w x y z =
-    All-append IsField (a ++ b ++ c ++ d ++ e) f (All-append IsField (a ++ b ++ c ++ d) e (All-append IsField (a ++ b ++ c) d (All-append IsField (a ++ b) c (All-append IsField a b u v) w) x) y) z
-
-head_well : (r : Reply) → IfSome r.range (λ k. k < 2 ^ 64) → length (body_text r) < 2 ^ 64 → IsResponseHead (head_of r)
-head_well r range size =
-    let (digits, reason, value) = is_status r.status in record {
-      minor = omega arith;
-      digits = (refl, AllPass-from_list_all is_ascii_digit (code_digits (number_of r.status)) digits);
-      reason = AllPass-from_list_all is_value_byte (unwrap_or (reason_phrase (number_of r.status)) []) reason;
-      fields = all_well _ _ _ _ _ _ (job_status_well r.job_status) (range_well r.range range) (allow_well r.allow) (type_well (type_text r.body) (body_text r) (type_value r.body)) (length_well (number_of r.status == 204) (length (body_text r)) size) close_well;
-    }
-
--- the lines of the fields
-joined : (a b c d e f : List Field) → print (a ++ b ++ c ++ d ++ e ++ f) ≡ print a ++ print b ++ print c ++ print d ++ print e ++ print f
-joined a b c d e f =
-    let two = flat_map-append print_field a b in
-    let three = flat_map-append print_field (a ++ b) c ∙ ap (λ l. l ++ print c) two in
-    let four = flat_map-append print_field (a ++ b ++ c) d ∙ ap (λ l. l ++ print d) three in
-    let five = flat_map-append print_field (a ++ b ++ c ++ d) e ∙ ap (λ l. l ++ print e) four in
-    flat_map-append print_field (a ++ b ++ c ++ d ++ e) f ∙ ap (λ l. l ++ print f) five
-
 abbrev lines_of : Reply → List ℕ
 lines_of r =
     job_status_line r.job_status ++ range_line r.range ++ allow_line r.allow ++ type_line (type_text r.body) (body_text r)
     ++ length_line r.status (length (body_text r)) ++ codes "Connection: close\r\n"
 
-fields_print : (r : Reply) → print (fields_of r) ≡ lines_of r
-fields_print r =
-    let kind = type_text r.body in
-    let body = body_text r in
-    let none = number_of r.status == 204 in
-    let size = length body in
-    joined (job_status_fields r.job_status) (range_fields r.range) (allow_fields r.allow) (type_fields kind body) (length_fields none size) (field (codes "Connection") (codes "close") ∷ [])
-    ∙ (λ i. job_status_print r.job_status i ++ range_print r.range i ++ allow_print r.allow i ++ type_print kind body i ++ length_print none size i ++ codes "Connection: close\r\n")
+all_lines : (r : Reply) → IfSome r.range (λ k. k < 2 ^ 64) → length (body_text r) < 2 ^ 64 → AreLines (fields_of r) (lines_of r) (length_values r.status (length (body_text r)) ++ [])
+all_lines r range size =
+    and_then (and_then (and_then (and_then (and_then (job_status_is r.job_status) (range_is r.range range)) (allow_is r.allow)) (type_is (type_text r.body) (body_text r) (type_value r.body)))
+    (length_is (number_of r.status == 204) (length (body_text r)) size)) close_is
 
 regroup : (s a b c d e f g r : List ℕ) → (s ++ a ++ b ++ c ++ d ++ e ++ (f ++ g)) ++ r ≡ s ++ (((a ++ b ++ c ++ d ++ e ++ f) ++ g) ++ r)
 regroup s a b c d e f g r = simp (append_assoc)
@@ -248,84 +223,26 @@ start : (s : HttpStatus) (rest : List ℕ) → status_line s ++ rest
 unfolding status_line
 start s rest = start_by _ _ _ (unwrap_or (reason_phrase (number_of s)) []) rest
 
-reply_print : (r : Reply) → reply_text r ≡ print_response (head_of r) ++ body_text r
-reply_print r =
+reply_print : (r : Reply) → print (fields_of r) ≡ lines_of r → reply_text r ≡ print_response (head_of r) ++ body_text r
+reply_print r printed =
     let after = (lines_of r ++ crlf) ++ body_text r in
     let text : reply_text r ≡ status_line r.status ++ after
     = regroup (status_line r.status) (job_status_line r.job_status) (range_line r.range) (allow_line r.allow) (type_line (type_text r.body) (body_text r))
     (length_line r.status (length (body_text r))) (codes "Connection: close\r\n") crlf (body_text r) in
     text ∙ start r.status after
-    ∙ ap (λ l. codes "HTTP/1.1 " ++ (code_digits (number_of r.status) ++ (32 ∷ (unwrap_or (reason_phrase (number_of r.status)) [] ++ (crlf ++ ((l ++ crlf) ++ body_text r)))))) (sym (fields_print r))
+    ∙ ap (λ l. codes "HTTP/1.1 " ++ (code_digits (number_of r.status) ++ (32 ∷ (unwrap_or (reason_phrase (number_of r.status)) [] ++ (crlf ++ ((l ++ crlf) ++ body_text r)))))) (sym printed)
     ∙ sym (print_response-append (head_of r) (body_text r))
 
--- the values of Content-Length
-abbrev lengths : List Field → List (List ℕ)
-lengths fields = values_of (codes "content-length") (map name_and_value fields)
-
-lengths-append : (a b : List Field) → lengths (a ++ b) ≡ lengths a ++ lengths b
-lengths-append a b = ap (values_of (codes "content-length")) (map-append name_and_value a b) ∙ values-append (codes "content-length") (map name_and_value a) (map name_and_value b)
-
-abbrev is_seen : ℕ → Bool
-is_seen b = not (is_ows b)
-
-not_blank : (b : Bool) → not b ≡ true → false ≡ b
-not_blank true h = cc
-not_blank false h = refl
-
-skip_none : (text : List ℕ) → list_all is_seen text ≡ true → skip_ows text ≡ text
-skip_none [] h = refl
-skip_none (x ∷ text) h = skip_ows_no {b = x} {all = x ∷ text} {rest = text} refl (not_blank (is_ows x) (and_parts (is_seen x) (list_all is_seen text) h).0)
-
-digit_seen : (m : ℕ) → m < 10 → list_all is_seen ((48 + m) ∷ []) ≡ true
-digit_seen m h = grind (arith, nat_tests)
-
-decimal_seen : (n : ℕ) → n < 2 ^ 64 → list_all is_seen (decimal n) ≡ true
-decimal_seen = decimal_by_steps (λ m ds. list_all is_seen ds ≡ true) digit_seen
-    (λ m ds l h. list_all-append is_seen ds ((48 + m % 10) ∷ []) ∙ ap (λ b. b && list_all is_seen ((48 + m % 10) ∷ [])) h ∙ digit_seen (m % 10) (omega arith))
-
-trim_decimal : (n : ℕ) → n < 2 ^ 64 → trim_ows (32 ∷ decimal n) ≡ decimal n
-trim_decimal n h =
-    let seen = decimal_seen n h in
-    let back = list_all-from_AllPass is_seen (reverse (decimal n)) (AllPass-reverse is_seen (decimal n) (AllPass-from_list_all is_seen (decimal n) seen)) in
-    trim_ows_space (decimal n) (skip_none (decimal n) seen) (skip_none (reverse (decimal n)) back)
-
-job_status_lengths : (s : Option JobStatus) → lengths (job_status_fields s) ≡ []
-job_status_lengths None = refl
-job_status_lengths (Some s) = refl
-
-range_lengths : (n : Option ℕ) → lengths (range_fields n) ≡ []
-range_lengths None = refl
-range_lengths (Some n) = refl
-
-allow_lengths : (methods : Option Methods) → lengths (allow_fields methods) ≡ []
-allow_lengths None = refl
-allow_lengths (Some methods) = refl
-
-type_lengths : (kind body : List ℕ) → lengths (type_fields kind body) ≡ []
-type_lengths kind [] = refl
-type_lengths kind (b ∷ body) = refl
-
-length_lengths : (none : Bool) (n : ℕ) → n < 2 ^ 64 → lengths (length_fields none n) ≡ (if none then [] else decimal n ∷ [])
-length_lengths true n h = refl
-length_lengths false n h = ap (λ v. v ∷ []) (trim_decimal n h)
-
-lengths_joined : (a b c d e f : List Field) → lengths a ≡ [] → lengths b ≡ [] → lengths c ≡ [] → lengths d ≡ [] → lengths f ≡ []
-    → lengths (a ++ b ++ c ++ d ++ e ++ f) ≡ lengths e
-lengths_joined a b c d e f u v w x z =
-    let two : lengths (a ++ b) ≡ [] = lengths-append a b ∙ (λ i. u i ++ v i) in
-    let three : lengths (a ++ b ++ c) ≡ [] = lengths-append (a ++ b) c ∙ (λ i. two i ++ w i) in
-    let four : lengths (a ++ b ++ c ++ d) ≡ [] = lengths-append (a ++ b ++ c) d ∙ (λ i. three i ++ x i) in
-    let five : lengths (a ++ b ++ c ++ d ++ e) ≡ lengths e = lengths-append (a ++ b ++ c ++ d) e ∙ ap (λ l. l ++ lengths e) four in
-    lengths-append (a ++ b ++ c ++ d ++ e) f ∙ (λ i. five i ++ z i) ∙ append-nil (lengths e)
-
-says_length : (r : Reply) → length (body_text r) < 2 ^ 64 → lengths (fields_of r) ≡ length_values r.status (length (body_text r))
-says_length r size =
-    let kind = type_text r.body in
-    let body = body_text r in
-    let none = number_of r.status == 204 in
-    lengths_joined (job_status_fields r.job_status) (range_fields r.range) (allow_fields r.allow) (type_fields kind body) (length_fields none (length body)) (field (codes "Connection") (codes "close") ∷ [])
-    (job_status_lengths r.job_status) (range_lengths r.range) (allow_lengths r.allow) (type_lengths kind body) refl
-    ∙ length_lengths none (length body) size
+head_well : (r : Reply) → All IsField (fields_of r) → IsResponseHead (head_of r)
+head_well r well =
+    let (digits, reason, value) = is_status r.status in record {
+      minor = omega arith;
+      digits = (refl, AllPass-from_list_all is_ascii_digit (code_digits (number_of r.status)) digits);
+      reason = AllPass-from_list_all is_value_byte (unwrap_or (reason_phrase (number_of r.status)) []) reason;
+      fields = well;
+    }
 
 pub is_response : (r : Reply) → IfSome r.range (λ k. k < 2 ^ 64) → length (body_text r) < 2 ^ 64 → IsResponse (reply_text r) r.status (body_text r)
-is_response r range size = (head_of r, (head_well r range size, reply_print r), (is_status r.status).2, says_length r size)
+is_response r range size =
+    let lines = all_lines r range size in
+    (head_of r, (head_well r lines.well, reply_print r lines.printed), (is_status r.status).2, lines.values_are ∙ append-nil (length_values r.status (length (body_text r))))

@@ -1,15 +1,15 @@
 -- Each route's operation names the path that asks for it.
-use Rattle.std.proofs.Common.{◌≡◌, ℕ, List, [], ◌∷◌, ◌++◌, Option, Some, None, Bool, true, false, cond, refl, sym, ap, subst, ◌∙◌, arith, nat_eq, ◌==◌, if◌then◌else◌}
+use Rattle.std.proofs.Common.{◌≡◌, ℕ, List, [], ◌∷◌, ◌++◌, Option, Some, None, Bool, refl, sym, ap, subst, ◌∙◌, nat_eq, ◌==◌}
 use Rattle.std.proofs.Common.{option_and_then, unwrap_or, decimal, map}
 use Rattle.std.specs.List.{find}
 use Rattle.std.specs.Cmp.Lexicographic.{pointwise}
-use Rattle.std.proofs.lemmas.Bool.Decides.{nat_tests}
 use Rattle.std.proofs.lemmas.Slice.Eq.{bytes_eq-Decides}
 use Rattle.ci_machine.specs.Prelude.{id_in}
 use Rattle.ci_values.proofs.Ids.{id_is}
 use Rattle.ci_machine.specs.declared.reply.Method.{Method}
 use Rattle.ci_http_messages.specs.Prelude.{Operation, path_text, is_text, method_text, Part, word, number, text, Takes, Route, Wanted, asks, routes, reads, with_route, routes_of}
-use Rattle.ci_http_messages.specs.Prelude.{routes_at, asked_by, asked_of, asked_in, segments, onto}
+use Rattle.ci_http_messages.specs.Prelude.{routes_at, asked_by, asked_of, asked_in, segments}
+use Rattle.ci_http_messages.proofs.Walks.{cases, same-byte}
 use Rattle.ci_http_messages.proofs.Splits.{segments-some}
 
 some-is : {A : Type 0} (d x y : A) → Some x ≡ Some y → x ≡ y
@@ -28,17 +28,11 @@ join-onto b s (t ∷ ss) = refl
 
 joined : (p : List ℕ) → join (segments p) ≡ p
 joined [] = refl
-joined (b ∷ p) = by (b == 47) refl (joined p) (segments-some p)
-  where
-    by : (v : Bool) → (b == 47) ≡ v → join (segments p) ≡ p → (s : List ℕ) × (ss : List (List ℕ)) × (segments p ≡ s ∷ ss)
-        → join (cond v ([] ∷ segments p) (onto b (segments p))) ≡ b ∷ p
-    by true q ih m =
-        let f : b ≡ 47 = grind (arith, nat_tests) in
-        let k : join (m.0 ∷ m.1) ≡ p = rw m.2 at ih in
-        rw (m.2, f) (ap (λ z. 47 ∷ z) k)
-    by false q ih m =
-        let k : join (m.0 ∷ m.1) ≡ p = rw m.2 at ih in
-        rw m.2 (join-onto b m.0 m.1 ∙ ap (λ z. b ∷ z) k)
+joined (b ∷ p) =
+    let (s, ss, is) = segments-some p in
+    let ih = joined p in
+    let k : join (s ∷ ss) ≡ p = rw is at ih in
+    cases (b == 47) (λ q. rw (same-byte b 47 q, is) (ap (λ z. 47 ∷ z) k)) (λ q. rw (q, is) (join-onto b s ss ∙ ap (λ z. b ∷ z) k))
 
 -- what stands in the slots of a path
 abbrev Slots : List Part → Type 0
@@ -64,18 +58,13 @@ Spells ps op ss o = (vs : Slots ps) × (ss ≡ spelled ps vs) × (applied ps op 
 
 spells : (ps : List Part) (op : Takes ps) (ss : List (List ℕ)) (o : Operation (List ℕ)) → reads ps op ss ≡ Some o → Spells ps op ss o
 spells [] op [] o e = (tt, refl, some-is o op o e)
-spells [] op (s ∷ ss) o e = cc
-spells (word w ∷ ps) op [] o e = cc
-spells (number x ∷ ps) op [] o e = cc
-spells (text x ∷ ps) op [] o e = cc
-spells (word w ∷ ps) op (s ∷ ss) o e = by (pointwise nat_eq w s) refl e (spells ps op ss o)
-  where
-    by : (v : Bool) → pointwise nat_eq w s ≡ v → (if v then reads ps op ss else None) ≡ Some o → (reads ps op ss ≡ Some o → Spells ps op ss o) → Spells (word w ∷ ps) op (s ∷ ss) o
-    by true q e ih =
-        let h = ih e in
-        let ws : w ≡ s = (bytes_eq-Decides w s).0 q in
-        (h.0, ap (λ z. z ∷ ss) (sym ws) ∙ ap (λ z. w ∷ z) h.1, h.2)
-    by false q e ih = cc
+spells (word w ∷ ps) op (s ∷ ss) o e =
+    cases (pointwise nat_eq w s) (
+    λ q.
+    let (vs, is, gives) = spells ps op ss o (rw q at e) in
+    (vs, ap (λ z. z ∷ ss) (sym ((bytes_eq-Decides w s).0 q)) ∙ ap (λ z. w ∷ z) is, gives)
+    )
+    (λ q. let k = rw q at e in cc)
 spells (number x ∷ ps) op (s ∷ ss) o e = by (id_in s) refl e (λ n. spells ps (op n) ss o)
   where
     by : (v : Option ℕ) → id_in s ≡ v → option_and_then (λ n. reads ps (op n) ss) v ≡ Some o → ((n : ℕ) → reads ps (op n) ss ≡ Some o → Spells ps (op n) ss o)
@@ -84,10 +73,10 @@ spells (number x ∷ ps) op (s ∷ ss) o e = by (id_in s) refl e (λ n. spells p
     by (Some n) q e ih =
         let h = ih n e in
         ((n, h.0), ap (λ z. z ∷ ss) (id_is s n q).1 ∙ ap (λ z. decimal n ∷ z) h.1, h.2)
-spells (text x ∷ ps) op ([] ∷ ss) o e = cc
 spells (text x ∷ ps) op ((b ∷ s) ∷ ss) o e =
-    let h = spells ps (op (b ∷ s)) ss o e in
-    ((b ∷ s, h.0), ap (λ z. (b ∷ s) ∷ z) h.1, h.2)
+    let (vs, is, gives) = spells ps (op (b ∷ s)) ss o e in
+    ((b ∷ s, vs), ap (λ z. (b ∷ s) ∷ z) is, gives)
+spells _ op _ o e = cc
 
 -- ---- the table
 
@@ -123,24 +112,14 @@ all-name = (λ vs. refl, (λ vs. refl, (λ vs. refl, (λ vs. refl, (λ vs. refl,
 
 path-named : (path : List ℕ) → AllNamed path (routes_at path)
 path-named [] = tt
-path-named (b ∷ p) = by (b == 47) refl
-  where
-    by : (v : Bool) → (b == 47) ≡ v → AllNamed (b ∷ p) (cond v (routes_of routes (segments p)) [])
-    by true q =
-        let f : 47 ≡ b = grind (arith, nat_tests) in
-        subst (λ z. AllNamed z (routes_of routes (segments p))) (ap (λ z. 47 ∷ z) (joined p) ∙ ap (λ z. z ∷ p) f) (rows-named routes all-name (segments p))
-    by false q = tt
+path-named (b ∷ p) =
+    cases (b == 47) (λ q. rw (same-byte b 47 q) (subst (λ z. AllNamed (47 ∷ z) (routes_of routes (segments p))) (joined p) (rows-named routes all-name (segments p)))) (λ q. rw q tt)
 
 found-named : (path : List ℕ) (test : Method × Wanted → Bool) (rs : List (Method × Wanted)) (methods : List Method) (w : Wanted) → AllNamed path rs
     → asked_by methods (find test rs) ≡ asks w → path ≡ path_text w.operation
 found-named path test [] methods w n e = cc
-found-named path test (f ∷ fs) methods w n e = by (test f) e (found-named path test fs methods w n.1)
-  where
-    by : (v : Bool) → asked_by methods (cond v (Some f) (find test fs)) ≡ asks w → (asked_by methods (find test fs) ≡ asks w → path ≡ path_text w.operation) → path ≡ path_text w.operation
-    by true e ih =
-        let s : f.1 ≡ w = cc in
-        n.0 ∙ ap (λ z. path_text z.operation) s
-    by false e ih = ih e
+found-named path test (f ∷ fs) methods w n e =
+    cases (test f) (λ q. let k = rw q at e in let s : f.1 ≡ w = cc in n.0 ∙ ap (λ z. path_text z.operation) s) (λ q. found-named path test fs methods w n.1 (rw q at e))
 
 asked-named : (method path : List ℕ) (rs : List (Method × Wanted)) (w : Wanted) → AllNamed path rs → asked_of method rs ≡ asks w → path ≡ path_text w.operation
 asked-named method path [] w n e = cc

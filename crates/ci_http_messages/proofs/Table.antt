@@ -1,35 +1,29 @@
 -- The router's rows are the table of pieces.
-use Rattle.std.proofs.Common.{◌≡◌, ℕ, suc, ◌<◌, List, [], ◌∷◌, length, get_or, Option, Some, None, Bool, true, false, cond, refl, sym, ap, ◌∙◌, arith, Fits, w8}
+use Rattle.std.proofs.Common.{◌≡◌, ℕ, suc, ◌<◌, List, [], ◌∷◌, length, get_or, Option, Some, true, refl, sym, ap, ◌∙◌, arith, rules, map, option_map, Fits, w8}
 use Rattle.std.proofs.Common.{◌==◌}
 use Rattle.matchit.proofs.OnLiterals.{matchit_on_literals}
 use Rattle.matchit.specs.Rows.{RowsOf}
 use Rattle.matchit.specs.Router.{RouteOf}
 use Rattle.matchit.specs.Seek.{first}
 use Rattle.matchit.specs.Level.{IsText}
-use Rattle.ci_http_messages.specs.Prelude.{Pattern, first_rows, table, patterns, pattern_in, text_in, first_of, segments, fits, first_fit}
+use Rattle.ci_http_messages.specs.Prelude.{Pattern, first_rows, table, patterns, pattern_in, text_in, fits, first_fit}
 use Rattle.ci_http_messages.specs.Prelude.{all_tidy, sorted}
 use Rattle.std.specs.Str.{IsUtf8}
-use Rattle.std.proofs.lemmas.Bool.Decides.{nat_tests}
+use Rattle.ci_http_messages.proofs.Walks.{cases, same-byte}
 use Rattle.ci_http_messages.proofs.Named.{AreRows, Gives, rows-give}
 use Rattle.ci_http_messages.proofs.Firsts.{first-fit}
 use Rattle.ci_http_messages.proofs.Splits.{token_rows, all_plain, first-in}
 
 module _ {T : Type 0} where
   abbrev pub valued : RowsOf (RouteOf T) → RowsOf T
-  valued [] = []
-  valued ((t, e) ∷ rest) = (t, e.value) ∷ valued rest
+  valued rows = map (λ row. (row.0, row.1.value)) rows
 
   abbrev pub value_of : Option (RouteOf T) → Option T
-  value_of None = None
-  value_of (Some e) = Some e.value
+  value_of found = option_map (λ e. e.value) found
 
 first-value : {T : Type 0} (rs : RowsOf (RouteOf T)) (path : List ℕ) → value_of (first_fit rs path) ≡ first_fit (valued rs) path
 first-value [] path = refl
-first-value ((t, e) ∷ rest) path = by (fits t path) (first-value rest path)
-  where
-    by : (v : Bool) → value_of (first_fit rest path) ≡ first_fit (valued rest) path → value_of (cond v (Some e) (first_fit rest path)) ≡ cond v (Some e.value) (first_fit (valued rest) path)
-    by true ih = refl
-    by false ih = ih
+first-value ((t, e) ∷ rest) path = cases (fits t path) (λ h. rw h refl) (λ h. rw h (first-value rest path))
 
 table-sorted : sorted table ≡ true
 unfolding matchit_on_literals first_rows table
@@ -62,18 +56,12 @@ found path x =
 
 table-rows : AreRows table patterns
 unfolding matchit_on_literals first_rows table patterns
-table-rows = ((refl, refl, refl, refl, refl), ((refl, refl, refl, refl, refl), ((refl, refl, refl, refl, refl), ((refl, refl, refl, refl, refl), ((refl, refl, refl, refl, refl), ((refl, refl, refl, refl, refl), ((refl, refl, refl, refl, refl), ((refl, refl, refl, refl, refl), ((refl, refl, refl, refl, refl), ((refl, refl, refl, refl, refl), ((refl, refl, refl, refl, refl), ((refl, refl, refl, refl, refl), ((refl, refl, refl, refl, refl), ((refl, refl, refl, refl, refl), ((refl, refl, refl, refl, refl), ((refl, refl, refl, refl, refl), ((refl, refl, refl, refl, refl), ((refl, refl, refl, refl, refl), ((refl, refl, refl, refl, refl), ((refl, refl, refl, refl, refl), ((refl, refl, refl, refl, refl), tt)))))))))))))))))))))
+table-rows = search rules
 
 -- a path with a route starts with a slash
 starts : (path : List ℕ) (e : RouteOf Pattern) → value_of (Some e) ≡ pattern_in patterns path → (p : List ℕ) × (path ≡ 47 ∷ p)
 starts [] e h = cc
-starts (b ∷ p) e h = by (b == 47) refl h
-  where
-    by : (v : Bool) → (b == 47) ≡ v → value_of (Some e) ≡ cond v (first_of patterns (segments p)) None → (q : List ℕ) × (b ∷ p ≡ 47 ∷ q)
-    by true k h =
-        let f : b ≡ 47 = grind (arith, nat_tests) in
-        (p, ap (λ z. z ∷ p) f)
-    by false k h = cc
+starts (b ∷ p) e h = cases (b == 47) (λ k. (p, rw (same-byte b 47 k) refl)) (λ k. let q = rw k at h in cc)
 
 -- the texts of a path's route
 pub gives : (key path : List ℕ) (e : RouteOf Pattern) → IsText path → IsUtf8 path → first table path ≡ Some e → Gives key e path (text_in key patterns path)

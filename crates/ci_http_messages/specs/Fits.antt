@@ -1,5 +1,6 @@
 -- What it is for a path to fit a pattern of tokens, with nothing of a walk.
 use Rattle.std.specs.Prelude.{ℕ, List, [], ◌∷◌, ◌++◌, Bool, true, false, cond, ◌&&◌, ◌==◌, ltb, Option, Some, None}
+use Rattle.std.specs.List.{list_all}
 use Rattle.matchit.specs.Rows.{RowsOf, comes_before}
 use Rattle.ci_http_messages.specs.Patterns.{Piece, fixed, slot}
 
@@ -29,16 +30,13 @@ module _ {K : Type 0} where
   first_fit ((t, k) ∷ rest) path = cond (fits t path) (Some k) (first_fit rest path)
 
   abbrev pub all_tidy : RowsOf K → Bool
-  all_tidy [] = true
-  all_tidy ((t, k) ∷ rest) = tidy t && all_tidy rest
+  all_tidy rows = list_all (λ row. tidy row.0) rows
 
   abbrev pub all_open : RowsOf K → Bool
-  all_open [] = true
-  all_open ((t, k) ∷ rest) = opens t && all_open rest
+  all_open rows = list_all (λ row. opens row.0) rows
 
   abbrev pub ahead : List ℕ → RowsOf K → Bool
-  ahead t [] = true
-  ahead t ((u, k) ∷ rest) = comes_before t u && ahead t rest
+  ahead t rows = list_all (λ row. comes_before t row.0) rows
 
   abbrev pub sorted : RowsOf K → Bool
   sorted [] = true

@@ -78,6 +78,7 @@ pub fn beginning_ends()
 {}
 
 /// The reply to another method names each method of the path's routes, in their order.
+#[tactic(auto, using(crate::proofs::Allows::names_each))]
 pub fn allow_names_each_method()
     ensures { (method path : List ℕ) (methods : List Method) → asked_in method path ≡ other_methods methods
         → option_map listed (methods_of methods) ≡ Some methods }

@@ -66,6 +66,7 @@ pub fn request_of(alloc: Global, paths: &Paths, call: &Call<'_>) -> Result<Deman
 }
 
 // What a call asks for by its method and its path.
+#[tactic(auto, using(crate::proofs::Utf8::is_text, crate::proofs::Utf8::no_text))]
 fn asked_by<'c>(paths: &Paths, call: &'c Call<'_>) -> Lookup<&'c str>
     ensures { asked_at call.now.method (path_of call.now.target) ≡ as_asked (λ key. key.now) result }
 {
@@ -333,6 +334,7 @@ fn token_of(alloc: Global, field: &[u8]) -> Result<Text, Code>
 }
 
 // The text of a field; what isn't UTF-8 is no token, as the empty text is none.
+#[tactic(auto, using(crate::proofs::Utf8::is_text, crate::proofs::Utf8::no_text))]
 fn text_or_empty(field: &[u8]) -> &str
     ensures { result.now ≡ text_or_empty field.now }
 {
@@ -342,6 +344,7 @@ fn text_or_empty(field: &[u8]) -> &str
     }
 }
 
+#[tactic(auto, using(crate::proofs::Utf8::is_text, crate::proofs::Utf8::no_text))]
 fn may_be_json(body: &[u8]) -> bool
     ensures { result ≡ is_utf8 body.now }
 {

@@ -12,6 +12,7 @@ use std::str;
 
 /// The JSON object that the bytes write in UTF-8. Errors: they write none (H7); memory was refused
 /// (M16).
+#[tactic(auto, using(crate::proofs::Utf8::is_text, crate::proofs::Utf8::no_text))]
 pub(crate) fn object_in(alloc: Global, body: &[u8]) -> Result<Value, Code>
     ensures ok { IfOk result (λ value. object_in body.now ≡ Some (view value)) }
     ensures text { OnOk result (MayBeJson body.now) }

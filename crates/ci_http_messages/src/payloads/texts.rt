@@ -45,6 +45,7 @@ pub fn value_in(alloc: Global, body: &[u8]) -> Result<Text, Code>
 /// The CI file that a body is: any text in UTF-8.
 ///
 /// Errors: the body isn't UTF-8 (H7); memory was refused (M16).
+#[tactic(auto, using(crate::proofs::Utf8::is_text, crate::proofs::Utf8::no_text))]
 pub fn file_in(alloc: Global, body: &[u8]) -> Result<Text, Code>
     ensures ok { IfOk result (λ file. file_in body.now ≡ Some file) }
     ensures err { IfErr result (λ why. IsWhyNot (is_utf8 body.now ≡ true) why (file_in body.now)) }

@@ -1,8 +1,9 @@
-use Rattle.std.proofs.Common.{◌∙◌, ap, subst, arith, take, nat_eq, count_by}
+use Rattle.std.proofs.Common.{◌∙◌, ap, subst, arith, take, nat_eq, count_by, true, false}
+use Rattle.std.proofs.lemmas.Bool.{lt-ltb, le-ltb}
 use Rattle.std.specs.List.{ends_with}
 use Rattle.std.specs.Io.KnownBytes.{Consumes}
 use Rattle.ci_http_messages.specs.Prelude.{empty_line, is_line_feed}
-use Rattle.ci_http_messages.proofs.Heads.{taken_more, whole_read, taken_ended, taken_all, whole_head, whole_lines, one_byte, takes_more}
+use Rattle.ci_http_messages.proofs.Heads.{taken_more, whole_read, taken_ended, taken_all, whole_opens, one_byte, takes_more}
 use Rattle.ci_http_messages.proofs.head.read_head.Goals as goal
 
 pub loop-preserved : goal.loop-preserved
@@ -26,7 +27,7 @@ returns-then-ends_head-clause-head g c =
     c.if-ends_head.true c.loop-test.true in
     let count = c.lines_of.ensures ∙ ap (λ l. count_by is_line_feed l) c.as_slice-then-ends_head.ensures.value in
     let least = c.if-lines_of-gt-MAX_HEAD_LINES.false in
-    whole_head _ _ c.push.new.self.items whole (omega arith)
+    whole_opens _ _ c.push.new.self.items false whole (le-ltb _ _ (omega arith))
 
 pub returns-then-lines_of-gt-MAX_HEAD_LINES-clause-too_large :
     goal.returns-then-lines_of-gt-MAX_HEAD_LINES-clause-too_large
@@ -36,7 +37,7 @@ returns-then-lines_of-gt-MAX_HEAD_LINES-clause-too_large g c _ =
     c.if-ends_head.true c.loop-test.true in
     let count = c.lines_of.ensures ∙ ap (λ l. count_by is_line_feed l) c.as_slice-then-ends_head.ensures.value in
     let more = c.if-lines_of-gt-MAX_HEAD_LINES.true in
-    whole_lines _ _ c.push.new.self.items whole (omega arith)
+    whole_opens _ _ c.push.new.self.items true whole (lt-ltb _ _ (omega arith))
 
 pub returns-then-branch-eq0-clause-ended : goal.returns-then-branch-eq0-clause-ended
 returns-then-branch-eq0-clause-ended g c _ =
