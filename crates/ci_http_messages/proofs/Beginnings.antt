@@ -118,7 +118,7 @@ asks_by : (h : Head) (len : Result ℕ Code) (after rest : List ℕ) (m : Messag
     → (request m, rest) ≡ reading_after (Some h) after → TakesBody (Some h) after rest
 asks_by h (Err why) after rest m is e =
     let same : (request m, rest) ≡ (refused why, after) = e ∙ ap (reading_by h after) is in
-    let q : request m ≡ refused why = first_is same in cc
+    let q : request m ≡ refused why = λ i. (same i).0 in cc
 asks_by h (Ok len) after rest m is e =
     let (body, size, split, same) = has_body h len after rest (request m) (λ q. cc) is e in
     (h, body, refl, is ∙ ap Ok (sym size), split)
@@ -153,7 +153,7 @@ beginning_ends text back rest m some is =
       | inr (inl (front, left, split, always)) ↦
           let after = left ++ back ++ rest in
           let same : (request m, rest) ≡ (refused H2, after) = subst (λ o. IsReadingAt o (request m, rest)) (ap opening_of (regroup front left back rest text split) ∙ always after) is in
-          let q : request m ≡ refused H2 = first_is same in cc
+          let q : request m ≡ refused H2 = λ i. (same i).0 in cc
       | inr (inr (front, left, split, always)) ↦
           let after = left ++ back ++ rest in
           let (head, valid, same) = subst (λ o. IsReadingAt o (request m, rest)) (ap opening_of (regroup front left back rest text split) ∙ always after) is in

@@ -1,14 +1,11 @@
 -- The routes of a path are those of its pattern.
-use Rattle.std.proofs.Common.{◌≡◌, ℕ, List, [], ◌∷◌, ◌++◌, map, Option, Some, None, false, refl, sym, ap, ◌∙◌, ◌==◌, get_or}
-use Rattle.std.proofs.Common.{codes}
+use Rattle.std.proofs.Common.{◌≡◌, ℕ, List, [], ◌∷◌, ◌++◌, map, Option, Some, None, false, refl, sym, ap, ◌∙◌, ◌==◌, get_or, codes}
 use Rattle.ci_machine.specs.declared.reply.Method.{Method}
 use Rattle.ci_machine.specs.declared.reply.Method.TheVariants.{Get}
-use Rattle.ci_http_messages.specs.Prelude.{AskJob}
-use Rattle.ci_http_messages.specs.Prelude.{Place, Pattern, Queue, Attempt, AttemptTrace, CiFile}
-use Rattle.ci_http_messages.specs.Prelude.{Variable, ResourceGroup, Creation, Pipeline, PipelineCancel, Job, JobTrace, JobPlay, JobCancel, JobRetry, Project, Pipelines}
-use Rattle.ci_http_messages.specs.Prelude.{PipelineJobs, JobAttempts, JobAttemptTrace, ResourceGroups, HealthCheck, Piece, patterns, pieces_fit, first_of, pattern_in}
-use Rattle.ci_http_messages.specs.Prelude.{text_at, text_of, text_in, number_at, routes_in}
-use Rattle.ci_http_messages.specs.Prelude.{routes_by, LeadsTo, Part, no_body, Route, Wanted, routes, with_route, routes_of, routes_at, segments}
+use Rattle.ci_http_messages.specs.Prelude.{AskJob, Place, Pattern, Queue, Attempt, AttemptTrace, CiFile, Variable, ResourceGroup, Creation, Pipeline, PipelineCancel, Job, JobTrace}
+use Rattle.ci_http_messages.specs.Prelude.{JobPlay, JobCancel, JobRetry, Project, Pipelines, PipelineJobs, JobAttempts, JobAttemptTrace, ResourceGroups, HealthCheck, Piece}
+use Rattle.ci_http_messages.specs.Prelude.{patterns, pieces_fit, first_of, pattern_in, text_at, text_of, text_in, number_at, routes_in, routes_by, LeadsTo, Part, no_body, Route}
+use Rattle.ci_http_messages.specs.Prelude.{Wanted, routes, with_route, routes_of, routes_at, segments}
 use Rattle.ci_http_messages.proofs.Fitting.{loose, unfit, Each, each}
 use Rattle.ci_http_messages.proofs.Walks.{cases}
 
@@ -132,8 +129,8 @@ good =
     (also (refl, tt) (λ b s. (λ e. rw e refl, λ n e. rw e refl)) tt))))))))))))))))))))
 
 -- the routes of a path are those of its pattern
-pub at-path : (path : List ℕ) → routes_at path
-    ≡ by_pattern (pattern_in patterns path) (text_in (codes "id") patterns path) (text_in (codes "n") patterns path) (text_in (codes "m") patterns path) (text_in (codes "key") patterns path)
+pub at-path : (path : List ℕ) → routes_at path ≡ by_pattern (pattern_in patterns path) (text_in (codes "id") patterns path)
+    (text_in (codes "n") patterns path) (text_in (codes "m") patterns path) (text_in (codes "key") patterns path)
 at-path [] = refl
 at-path (b ∷ p) =
     let ss = segments p in

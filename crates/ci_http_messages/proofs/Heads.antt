@@ -230,7 +230,8 @@ whole_read old mid new v w buf m n e t some room one got same test holds less =
 pub whole_opens : (old new : Option (List ℕ)) (head : List ℕ) (many : Bool) → Whole old new head → nat_lt MAX_HEAD_LINES (count_by is_line_feed head) ≡ many
     → Tells old new (λ bytes rest. opening_of bytes ≡ (if many then (too_large, rest) else (opened head, rest)))
 whole_opens old new head many w lines =
-    tells_from (λ bytes rest. opening_of bytes ≡ (if many then (too_large, rest) else (opened head, rest))) old new head w.told (λ rest e. opening-front head rest many w.found w.size lines)
+    tells_from (λ bytes rest. opening_of bytes ≡ (if many then (too_large, rest) else (opened head, rest))) old new head w.told
+    (λ rest e. opening-front head rest many w.found w.size lines)
 
 pub taken_all : (old new : Option (List ℕ)) (v : List ℕ) (n : ℕ) → Taken old new v n → n ≡ MAX_HEAD_BYTES
     → Tells old new (λ bytes rest. opening_of bytes ≡ (too_large, rest))

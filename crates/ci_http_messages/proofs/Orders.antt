@@ -2,11 +2,8 @@
 use Rattle.std.proofs.Common.{◌≡◌, ◌≤◌, ℕ, List, [], ◌∷◌, length, Option, Some, None, Bool, true, false, cond, refl, sym, subst, ◌∙◌, arith, map, filter, codes}
 use Rattle.std.proofs.lemmas.Slice.Eq.{bytes_eq-Decides}
 use Rattle.ci_machine.specs.declared.reply.Method.{Method}
-use Rattle.ci_http_messages.specs.Prelude.{Operation, AskJob}
-use Rattle.ci_http_messages.specs.Prelude.{Health, wanted, Pattern, Queue}
-use Rattle.ci_http_messages.specs.Prelude.{Variable, ResourceGroup}
-use Rattle.ci_http_messages.specs.Prelude.{HealthCheck, ascends, is_text, method_text, patterns, pattern_in, text_in}
-use Rattle.ci_http_messages.specs.Prelude.{number_at, with_one, with_two, with_three, of_variable, of_group, with_key, routes_in, Wanted, routes_at}
+use Rattle.ci_http_messages.specs.Prelude.{Operation, AskJob, Health, wanted, Pattern, Queue, Variable, ResourceGroup, HealthCheck, ascends, is_text, method_text, patterns}
+use Rattle.ci_http_messages.specs.Prelude.{pattern_in, text_in, number_at, with_one, with_two, with_three, of_variable, of_group, with_key, routes_in, Wanted, routes_at}
 use Rattle.ci_machine.specs.declared.reply.Method.TheVariants.{Delete, Get, Post, Put}
 use Rattle.ci_http_messages.proofs.Walks.{cases}
 use Rattle.ci_http_messages.proofs.Groups.{by_pattern, at-path}
@@ -75,7 +72,8 @@ apart one other method n d p =
 
 one-of-two : (method : List ℕ) (m l : Method) (w v : Wanted) → InOrder m l → FewOf method ((m, w) ∷ (l, v) ∷ [])
 one-of-two method m l w v is =
-    cases (is_text (method_text m) method) (λ d. cases (is_text (method_text l) method) (λ p. absurd (apart (method_text m) (method_text l) method is.1 d p)) (λ p. rw (d, p) (omega arith)))
+    cases (is_text (method_text m) method)
+    (λ d. cases (is_text (method_text l) method) (λ p. absurd (apart (method_text m) (method_text l) method is.1 d p)) (λ p. rw (d, p) (omega arith)))
     (λ d. rw d (few (is_text (method_text l) method) (l, v)))
 
 pub one_route : (method path : List ℕ) → FewOf method (routes_at path)

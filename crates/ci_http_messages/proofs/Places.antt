@@ -57,4 +57,5 @@ ends_by_feed head ends =
 
 -- what ends with another byte doesn't end with it
 pub ends_otherwise : (head : List ℕ) (b : ℕ) → Some b ≡ slice_get head (length head - 1) → (b ≡ 10 → ⊥) → false ≡ ends_with nat_eq head empty_line
-ends_otherwise head b is other = sym (false_from_ne_true (ends_with nat_eq head empty_line) (λ ends. other (sym (get_or_from_slice_get head (length head - 1) b 0 (sym is)) ∙ ends_by_feed head ends)))
+ends_otherwise head b is other =
+    sym (false_from_ne_true (ends_with nat_eq head empty_line) (λ ends. other (sym (get_or_from_slice_get head (length head - 1) b 0 (sym is)) ∙ ends_by_feed head ends)))

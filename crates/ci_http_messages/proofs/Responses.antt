@@ -206,10 +206,11 @@ lines_of r =
     job_status_line r.job_status ++ range_line r.range ++ allow_line r.allow ++ type_line (type_text r.body) (body_text r)
     ++ length_line r.status (length (body_text r)) ++ codes "Connection: close\r\n"
 
-all_lines : (r : Reply) → IfSome r.range (λ k. k < 2 ^ 64) → length (body_text r) < 2 ^ 64 → AreLines (fields_of r) (lines_of r) (length_values r.status (length (body_text r)) ++ [])
+all_lines : (r : Reply) → IfSome r.range (λ k. k < 2 ^ 64) → length (body_text r) < 2 ^ 64
+    → AreLines (fields_of r) (lines_of r) (length_values r.status (length (body_text r)) ++ [])
 all_lines r range size =
-    and_then (and_then (and_then (and_then (and_then (job_status_is r.job_status) (range_is r.range range)) (allow_is r.allow)) (type_is (type_text r.body) (body_text r) (type_value r.body)))
-    (length_is (number_of r.status == 204) (length (body_text r)) size)) close_is
+    and_then (and_then (and_then (and_then (and_then (job_status_is r.job_status) (range_is r.range range)) (allow_is r.allow))
+    (type_is (type_text r.body) (body_text r) (type_value r.body))) (length_is (number_of r.status == 204) (length (body_text r)) size)) close_is
 
 regroup : (s a b c d e f g r : List ℕ) → (s ++ a ++ b ++ c ++ d ++ e ++ (f ++ g)) ++ r ≡ s ++ (((a ++ b ++ c ++ d ++ e ++ f) ++ g) ++ r)
 regroup s a b c d e f g r = simp (append_assoc)
@@ -230,7 +231,8 @@ reply_print r printed =
     = regroup (status_line r.status) (job_status_line r.job_status) (range_line r.range) (allow_line r.allow) (type_line (type_text r.body) (body_text r))
     (length_line r.status (length (body_text r))) (codes "Connection: close\r\n") crlf (body_text r) in
     text ∙ start r.status after
-    ∙ ap (λ l. codes "HTTP/1.1 " ++ (code_digits (number_of r.status) ++ (32 ∷ (unwrap_or (reason_phrase (number_of r.status)) [] ++ (crlf ++ ((l ++ crlf) ++ body_text r)))))) (sym printed)
+    ∙ ap (λ l. codes "HTTP/1.1 " ++ (code_digits (number_of r.status) ++ (32 ∷ (unwrap_or (reason_phrase (number_of r.status)) [] ++ (crlf ++ ((l ++ crlf) ++ body_text r))))))
+    (sym printed)
     ∙ sym (print_response-append (head_of r) (body_text r))
 
 head_well : (r : Reply) → All IsField (fields_of r) → IsResponseHead (head_of r)

@@ -1,6 +1,5 @@
 -- Each route's operation names the path that asks for it.
-use Rattle.std.proofs.Common.{◌≡◌, ℕ, List, [], ◌∷◌, ◌++◌, Option, Some, None, Bool, refl, sym, ap, subst, ◌∙◌, nat_eq, ◌==◌}
-use Rattle.std.proofs.Common.{option_and_then, unwrap_or, decimal, map}
+use Rattle.std.proofs.Common.{◌≡◌, ℕ, List, [], ◌∷◌, ◌++◌, Option, Some, None, Bool, refl, sym, ap, subst, ◌∙◌, nat_eq, ◌==◌, option_and_then, unwrap_or, decimal, map}
 use Rattle.std.specs.List.{find}
 use Rattle.std.specs.Cmp.Lexicographic.{pointwise}
 use Rattle.std.proofs.lemmas.Slice.Eq.{bytes_eq-Decides}
@@ -113,7 +112,8 @@ all-name = (λ vs. refl, (λ vs. refl, (λ vs. refl, (λ vs. refl, (λ vs. refl,
 path-named : (path : List ℕ) → AllNamed path (routes_at path)
 path-named [] = tt
 path-named (b ∷ p) =
-    cases (b == 47) (λ q. rw (same-byte b 47 q) (subst (λ z. AllNamed (47 ∷ z) (routes_of routes (segments p))) (joined p) (rows-named routes all-name (segments p)))) (λ q. rw q tt)
+    cases (b == 47) (λ q. rw (same-byte b 47 q) (subst (λ z. AllNamed (47 ∷ z) (routes_of routes (segments p))) (joined p) (rows-named routes all-name (segments p))))
+    (λ q. rw q tt)
 
 found-named : (path : List ℕ) (test : Method × Wanted → Bool) (rs : List (Method × Wanted)) (methods : List Method) (w : Wanted) → AllNamed path rs
     → asked_by methods (find test rs) ≡ asks w → path ≡ path_text w.operation

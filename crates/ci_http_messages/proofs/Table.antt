@@ -1,13 +1,11 @@
 -- The router's rows are the table of pieces.
-use Rattle.std.proofs.Common.{◌≡◌, ℕ, suc, ◌<◌, List, [], ◌∷◌, length, get_or, Option, Some, true, refl, sym, ap, ◌∙◌, arith, rules, map, option_map, Fits, w8}
-use Rattle.std.proofs.Common.{◌==◌}
+use Rattle.std.proofs.Common.{◌≡◌, ℕ, suc, ◌<◌, List, [], ◌∷◌, length, get_or, Option, Some, true, refl, sym, ap, ◌∙◌, arith, rules, map, option_map, Fits, w8, ◌==◌}
 use Rattle.matchit.proofs.OnLiterals.{matchit_on_literals}
 use Rattle.matchit.specs.Rows.{RowsOf}
 use Rattle.matchit.specs.Router.{RouteOf}
 use Rattle.matchit.specs.Seek.{first}
 use Rattle.matchit.specs.Level.{IsText}
-use Rattle.ci_http_messages.specs.Prelude.{Pattern, first_rows, table, patterns, pattern_in, text_in, fits, first_fit}
-use Rattle.ci_http_messages.specs.Prelude.{all_tidy, sorted}
+use Rattle.ci_http_messages.specs.Prelude.{Pattern, first_rows, table, patterns, pattern_in, text_in, fits, first_fit, all_tidy, sorted}
 use Rattle.std.specs.Str.{IsUtf8}
 use Rattle.ci_http_messages.proofs.Walks.{cases, same-byte}
 use Rattle.ci_http_messages.proofs.Named.{AreRows, Gives, rows-give}
