@@ -8,7 +8,8 @@ use Rattle.matchit.specs.Seek.{step, seek, param_step, has_slash, segment, cuts,
 use Rattle.matchit.specs.Level.{IsText}
 use Rattle.matchit.proofs.ParamLemmas.{one_less, drop-length}
 use Rattle.ci_http_messages.specs.Prelude.{after, first_fit, all_tidy, all_open, sorted, goes_on}
-use Rattle.ci_http_messages.proofs.Walks.{cases, divide, or_else-nil, seek-nothing, seek-skip, sorted-step, tidy-step, open-step, no_catch, own-fit, seg-some, seg-slash, after-drop, after-some, after-none, length-after, long, seek-suffix, goes_on-not}
+use Rattle.ci_http_messages.proofs.Walks.{cases, divide, or_else-nil, seek-nothing, seek-skip, sorted-step, tidy-step, open-step, no_catch, own-fit, seg-some, seg-slash}
+use Rattle.ci_http_messages.proofs.Walks.{after-drop, after-some, after-none, length-after, long, seek-suffix, goes_on-not}
 
 -- the suffix `/` can be cut where the segment has one and does not start with it
 cuts-slash : (b : ℕ) (p : List ℕ) → (b == 47) ≡ false → cuts (segment (b ∷ p)) (47 ∷ []) ≡ has_slash p

@@ -55,6 +55,7 @@ pub fn read_head<R: Source>(reader: &mut R, head: &mut HeadBytes) -> Result<(), 
 }
 
 // Whether the bytes end with CR LF CR LF. Few bytes are LF, so that is asked first.
+#[tactic(auto, using(crate::proofs::Places::ends_otherwise))]
 fn ends_head(head: &[u8]) -> bool
     ensures { result ≡ ends_with nat_eq head.now empty_line }
 {
