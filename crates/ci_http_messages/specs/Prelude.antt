@@ -7,7 +7,6 @@ pub use Rattle.ci_http_messages.specs.Dues.{IsWhole}
 pub use Rattle.ci_http_messages.specs.Fields.{Shows, is_named, values_of}
 pub use Rattle.ci_http_messages.specs.Fits.{after, ahead, all_open, all_tidy, first_fit, fits, goes_on, opens, sorted, tidy, tokens}
 pub use Rattle.ci_http_messages.specs.Head.{Head, IsHeadOf, head_at, head_parts}
-pub use Rattle.ci_http_messages.specs.Json.{json_of, only_object}
 pub use Rattle.ci_http_messages.specs.Laws.{ascends, path_text}
 pub use Rattle.ci_http_messages.specs.Methods.{is_text, method_text}
 pub use Rattle.ci_http_messages.specs.Opening.{IsOpening, Opening, empty_line, head_len, is_line_feed, opened, opening_at, opening_of, short, too_large}
@@ -22,23 +21,20 @@ pub use Rattle.ci_http_messages.specs.ReplyText.{IsResponse, allow_line, allow_t
 pub use Rattle.ci_http_messages.specs.ReplyText.{reply_text, type_line, type_text}
 unfoldable pub use Rattle.ci_http_messages.specs.ReplyText.{status_line}
 pub use Rattle.ci_http_messages.specs.RequestBytes.{AsksMemory, AsksMemoryBy, asked_at, is_health, methods_of, request_as, request_by, request_in}
-pub use Rattle.ci_http_messages.specs.Routes.{Asked, Body, Part, Route, Takes, Wanted, asked_by, asked_in, asked_of, asks, no_body, no_route, number, other_methods, reads}
-pub use Rattle.ci_http_messages.specs.Routes.{routes_at, routes_of, text, with_route, word}
+pub use Rattle.ci_http_messages.specs.Routes.{Asked, Part, Route, Takes, Wanted, asked_by, asked_in, asked_of, asks, no_body, no_route, number, other_methods, reads, routes_at}
+pub use Rattle.ci_http_messages.specs.Routes.{routes_of, text, with_route, word}
 unfoldable pub use Rattle.ci_http_messages.specs.Routes.{routes}
 pub use Rattle.ci_http_messages.specs.Segments.{onto, segments}
 pub use Rattle.ci_http_messages.specs.Sources.{Fails, TakesFront, Tells}
 unfoldable pub use Rattle.ci_http_messages.specs.Table.{first_rows, table}
 pub use Rattle.ci_http_messages.specs.Targets.{path_of}
-pub use Rattle.ci_http_messages.specs.Texts.{file_in}
 pub use Rattle.ci_http_messages.specs.declared.fault.HttpFault.TheVariants.{Ended, Memory, Refused}
 pub use Rattle.ci_http_messages.specs.declared.fields.Found.{Found}
 pub use Rattle.ci_http_messages.specs.declared.fields.Found.TheVariants.{Absent, Once, Twice}
 pub use Rattle.ci_http_messages.specs.declared.limits.TheConstants.{MAX_BODY_BYTES, MAX_HEAD_BYTES, MAX_HEAD_LINES}
 pub use Rattle.ci_http_messages.specs.declared.route.Demand.{Demand}
 pub use Rattle.ci_http_messages.specs.declared.routing.operation.Operation.{Operation}
-pub use Rattle.ci_http_messages.specs.declared.routing.operation.Operation.TheVariants.{AppendTrace, AskJob, CancelJob, CancelPipeline, CreatePipeline, DeleteVariable, Health}
-pub use Rattle.ci_http_messages.specs.declared.routing.operation.Operation.TheVariants.{Play, Read, RetryJob, SetFile, SetMode, SetVariable, ShowJob, ShowMode, ShowPipeline}
-pub use Rattle.ci_http_messages.specs.declared.routing.operation.Operation.TheVariants.{ShowTrace, UpdateJob}
+pub use Rattle.ci_http_messages.specs.declared.routing.operation.Operation.TheVariants.{AskJob, Health}
 pub use Rattle.ci_http_messages.specs.declared.routing.place.Place.{Place}
 pub use Rattle.ci_http_messages.specs.declared.routing.router.Pattern.{Pattern}
 pub use Rattle.ci_http_messages.specs.declared.routing.router.Pattern.TheVariants.{Attempt, AttemptTrace, CiFile, Creation, HealthCheck, Job, JobAttemptTrace, JobAttempts}
