@@ -100,6 +100,7 @@ all-patterns = refl
 also : {A B C : Type 0} → A → B → C → A × (B × C)
 also a b c = (a, (b, c))
 
+-- the routes of a pattern compute once it is known of each slot for a number whether one stands there
 good : Good groups
 unfolding routes
 good =

@@ -35,9 +35,6 @@ one_value : (name : List ℕ) (f : List ℕ × List ℕ) (b : Bool) → is_named
 one_value name f true h = ap (λ t. map (λ field. field.1) (cond t (f ∷ []) [])) h
 one_value name f false h = ap (λ t. map (λ field. field.1) (cond t (f ∷ []) [])) h
 
-pub shows_same : (found : Found) (a b : List (List ℕ)) → b ≡ a ++ [] → Shows found a → Shows found b
-shows_same found a b e s = subst (Shows found) (sym (append-nil a) ∙ sym e) s
-
 pub shows_some : (found : Found) (a : List (List ℕ)) → (found ≡ Absent → ⊥) → Shows found a → 0 < length a
 shows_some Absent a n s = absurd (n refl)
 shows_some (Once v) a n s = omega (arith, ap length s)
@@ -49,7 +46,7 @@ pub turn_same : (name head : List ℕ) (hs : List HeaderSpan) (i : ℕ) (d : Hea
     → Shows found (values_at name head (take (i + 1) hs))
 turn_same name head hs i d found h test s =
     let more = values_more name head hs i d h ∙ ap (λ l. values_at name head (take i hs) ++ l) (one_value name (header_bytes head (get_or hs i d)) false test) in
-    shows_same found _ _ more s
+    subst (Shows found) (sym (more ∙ append-nil (values_at name head (take i hs)))) s
 
 pub turn_once : (name head : List ℕ) (hs : List HeaderSpan) (i : ℕ) (d : HeaderSpan) (value : List ℕ) → i < length hs
     → is_named name (header_bytes head (get_or hs i d)) ≡ true → value ≡ (header_bytes head (get_or hs i d)).1
