@@ -2,23 +2,24 @@
 use Rattle.std.proofs.Common.{◌≡◌, ℕ, zero, suc, ◌+◌, ◌<◌, ◌≤◌, Bool, true, false, cond, ◌&&◌, ◌||◌, ◌==◌, List, [], ◌∷◌, ◌++◌, length, map, filter, All, if◌then◌else◌, Option}
 use Rattle.std.proofs.Common.{Some, slice_index_or, slice_set, refl, sym, ap, subst, ◌∙◌, inl, inr, ⊎_elim, arith, eqb-true, eq-eqb, ne_eqb}
 use Rattle.std.specs.List.{range_with_len}
-use Rattle.std.proofs.lemmas.Bool.{cond_both, cond-true, cond-false, cases_Bool, both_ways, eqb-false}
-use Rattle.std.proofs.lemmas.List.{append-nil, get_or-map, get_or-set_same, get_or-set_other, length-map, length-set}
-use Rattle.std.proofs.lemmas.List.Elements.{filter-append}
+use Rattle.std.proofs.lemmas.Bool.{cond_both, cond-true, cond-false, cases_Bool, both_ways, eqb-false, or_from, or_right}
+use Rattle.std.proofs.lemmas.List.{ext_get_or, get_or-map, get_or-set_same, get_or-set_other, length-map, length-set}
+use Rattle.std.proofs.lemmas.List.FromFn.{fill_by_all}
 use Rattle.ci_machine.specs.Prelude.{number_at}
 use Rattle.ci_machine_steps.specs.Prelude.{Facts, FactsChange, Row, AreRows, BoardState, no_facts, no_row, facts_at, replaced, is_named, Job, BoardRow, State, applied, put_rows}
 use Rattle.ci_machine_steps.specs.Prelude.{jobs_of, numbers_of, graph_of, facts_in, facts_of, rows_of, row_for, status_for, AreRowsOf, AreBoard, plain_options}
 use Rattle.ci_board.specs.Prelude.{row_at}
-use Rattle.ci_machine.proofs.Keyed.{Has, Rising, rising_from, rising_filter, has_filter, filter_has, filter_none, map_has, All-from_has}
+use Rattle.ci_machine.proofs.Keyed.{Has, Rising, rising_from, rising_filter, has_filter, filter_has, filter_none, filter_same, map_has, has_from_all, All-from_has}
 use Rattle.ci_machine_steps.proofs.Ranges.{range_more}
 use Rattle.ci_machine_steps.proofs.Sound.{Sound}
 use Rattle.ci_machine_statuses.specs.declared.act.Act.{Act}
 use Rattle.ci_machine_statuses.specs.declared.outcome.Outcome.{Outcome}
 use Rattle.ci_machine_statuses.specs.Acts.{is_permitted, act_changes, acted, facts_acted, is_asked, is_acted_on, acted_jobs, acted_state, is_acted_at, facts_change, IsOutcome}
 use Rattle.ci_machine_statuses.specs.Boards.{IsBoardOf, changed_rows}
-use Rattle.ci_machine_statuses.proofs.Puts.{cons_same}
-use Rattle.ci_machine_statuses.proofs.Ends.{loaded_right, right_there}
-use Rattle.ci_machine_statuses.proofs.Joint.{settled}
+use Rattle.ci_machine_statuses.specs.Changes.{IsWithin}
+use Rattle.ci_machine_statuses.proofs.Puts.{number, map_filter, more_in, more_out}
+use Rattle.ci_machine_statuses.proofs.Ends.{settled_by}
+use Rattle.ci_machine_statuses.proofs.Joint.{rows_same, settled}
 use Rattle.ci_machine_statuses.proofs.ActFacts.{t, after_is, its_facts, within}
 
 -- ---- the board after
@@ -28,7 +29,7 @@ module _ (s : State) (act : Act) (p : ℕ) (test : Job → Bool) (rows : List Ro
   new = t s act p test sound
 
   right_now : AreRows (graph_of s p) (facts_of new p) rows
-  right_now = subst (λ fs. AreRows (graph_of s p) fs rows) (sym (its_facts s act p test sound)) right
+  right_now = rows_same refl (its_facts s act p test sound) refl right
 
   pub act_board : (board : List BoardRow) → AreBoard s board
       → AreBoard (applied (act_changes act s (filter test (jobs_of s p))) s) (put_rows (changed_rows (numbers_of s p) (rows_of s board p) rows) board)
@@ -40,21 +41,18 @@ module _ (s : State) (act : Act) (p : ℕ) (test : Job → Bool) (rows : List Ro
   act_rows =
       let w = within s act p test sound in
       subst (λ (v : State). AreRowsOf v p rows) (sym (after_is s act p test sound)) (record {
-        long = long ∙ (sym (ap length (w.its_numbers p)) ∙ length-map (jobs_of new p) (λ (j : Job). j.id));
-        settled = subst (λ g. AreRows g (facts_of new p) rows) (sym (w.graphs p)) right_now;
+        long = long ∙ (sym (ap length (w.its_numbers p)) ∙ length-map (jobs_of new p) number);
+        settled = rows_same (w.graphs p) refl refl right_now;
       })
 
 -- ---- places
 
 -- one place more
-pub place_more : (r : ℕ → Bool) (n : ℕ) → filter r (range_with_len 0 (n + 1)) ≡ filter r (range_with_len 0 n) ++ cond (r n) (n ∷ []) []
-place_more r n = ap (filter r) (range_more n) ∙ filter-append r (range_with_len 0 n) (n ∷ [])
-
 pub place_pushed : (r : ℕ → Bool) (n : ℕ) (places pushed : List ℕ) → r n ≡ true → places ≡ filter r (range_with_len 0 n) → pushed ≡ places ++ n ∷ [] → pushed ≡ filter r (range_with_len 0 (n + 1))
-place_pushed r n places pushed e h push = push ∙ (ap (λ l. l ++ n ∷ []) h ∙ sym (place_more r n ∙ ap (λ l. filter r (range_with_len 0 n) ++ l) (cond-true (r n) (n ∷ []) [] e)))
+place_pushed r n places pushed e h push = push ∙ (ap (λ l. l ++ n ∷ []) h ∙ sym (ap (filter r) (range_more n) ∙ more_in r (range_with_len 0 n) n e))
 
 pub place_passed : (r : ℕ → Bool) (n : ℕ) (places : List ℕ) → r n ≡ false → places ≡ filter r (range_with_len 0 n) → places ≡ filter r (range_with_len 0 (n + 1))
-place_passed r n places e h = h ∙ sym (place_more r n ∙ (ap (λ l. filter r (range_with_len 0 n) ++ l) (cond-false (r n) (n ∷ []) [] e) ∙ append-nil (filter r (range_with_len 0 n))))
+place_passed r n places e h = h ∙ sym (ap (filter r) (range_more n) ∙ more_out r (range_with_len 0 n) n e)
 
 in_range : (low n i : ℕ) → Has i (range_with_len low n) → (low ≤ i) × (i < low + n)
 in_range low zero i k = absurd k
@@ -67,47 +65,13 @@ range_has low (suc n) i l m =
     (λ e. inl (eqb-true i low e))
     (λ e. inr (range_has (low + 1) n i (let d : i ≡ low → ⊥ = eqb-false i low e in omega arith) (omega arith)))
 
--- the records at the places that pass
-filter_places : {A : Type 0} (d : A) (q : A → Bool) (r : ℕ → Bool) (g : ℕ → A) (k : ℕ) (xs : List A)
-    → ((i : ℕ) → i < length xs → (g (k + i) ≡ slice_index_or xs i d) × (r (k + i) ≡ q (slice_index_or xs i d))) → map g (filter r (range_with_len k (length xs))) ≡ filter q xs
-filter_places d q r g k [] h = refl
-filter_places d q r g k (x ∷ xs) h =
-    let z : k + 0 ≡ k = omega arith in
-    let here = h 0 (omega arith) in
-    let is : g k ≡ x = subst (λ n. g n ≡ x) z here.0 in
-    let passes : r k ≡ q x = subst (λ n. r n ≡ q x) z here.1 in
-    let F : List ℕ = filter r (range_with_len (k + 1) (length xs)) in
-    let rest : map g F ≡ filter q xs = filter_places d q r g (k + 1) xs (λ i l.
-    let y : k + suc i ≡ k + 1 + i = omega arith in
-    let w = h (suc i) (omega arith) in
-    (subst (λ n. g n ≡ slice_index_or xs i d) y w.0, subst (λ n. r n ≡ q (slice_index_or xs i d)) y w.1)) in
-    ⊎_elim
-    (λ e. ap (λ b. map g (cond b (k ∷ F) F)) (passes ∙ e) ∙ (cons_same is rest ∙ sym (cond-true (q x) (x ∷ filter q xs) (filter q xs) e)))
-    (λ e. ap (λ b. map g (cond b (k ∷ F) F)) (passes ∙ e) ∙ (rest ∙ sym (cond-false (q x) (x ∷ filter q xs) (filter q xs) e)))
-    (cases_Bool (q x))
-
 -- ---- new facts of many jobs
-
-same_facts : (xs ys : List Facts) → length xs ≡ length ys → ((i : ℕ) → i < length ys → facts_at xs i ≡ facts_at ys i) → xs ≡ ys
-same_facts [] [] l h = refl
-same_facts [] (y ∷ ys) l h = absurd (omega arith)
-same_facts (x ∷ xs) [] l h = absurd (omega arith)
-same_facts (x ∷ xs) (y ∷ ys) l h = cons_same (h 0 (omega arith)) (same_facts xs ys (omega arith) (λ i k. h (suc i) (omega arith)))
-
-neither : (a b : Bool) → a ≡ false → b ≡ false → (a || b) ≡ false
-neither false false e f = refl
-neither true b e f = absurd (both_ways true e refl)
-neither false true e f = absurd (both_ways true f refl)
-
-either : (a b : Bool) → b ≡ true → (a || b) ≡ true
-either true b e = refl
-either false b e = e
 
 -- the named jobs come to the facts that are wanted, and the others have them already
 named_facts : (moved : List FactsChange) (facts target : List Facts) → length facts ≡ length target
     → ((c : FactsChange) → Has c moved → (c.position < length target) × (c.facts ≡ facts_at target c.position))
     → ((i : ℕ) → i < length target → is_named moved i ≡ false → facts_at facts i ≡ facts_at target i) → replaced moved facts ≡ target
-named_facts [] facts target l named rest = same_facts facts target l (λ i k. rest i k refl)
+named_facts [] facts target l named rest = ext_get_or no_facts facts target l (λ i k. rest i (omega arith) refl)
 named_facts (c ∷ cs) facts target l named rest =
     let own = named c (inl refl) in
     named_facts cs (slice_set facts c.position c.facts) target (length-set facts c.position c.facts ∙ l) (λ d h. named d (inr h))
@@ -115,14 +79,14 @@ named_facts (c ∷ cs) facts target l named rest =
     (λ q. subst (λ (n : ℕ). facts_at (slice_set facts c.position c.facts) n ≡ facts_at target n) (eqb-true c.position i q)
     (get_or-set_same facts c.position c.facts no_facts (let z : c.position < length target = own.0 in omega arith) ∙ own.1))
     (λ q. get_or-set_other facts c.position i c.facts no_facts (λ z. eqb-false c.position i q (sym z))
-    ∙ rest i k (neither (c.position == i) (is_named cs i) q e)))
+    ∙ rest i k (or_from (c.position == i) (is_named cs i) q e)))
 
 named_has : (act : Act) (facts : List Facts) (i : ℕ) (places : List ℕ) → Has i places → is_named (map (facts_change act facts) places) i ≡ true
 named_has act facts i [] h = absurd h
 named_has act facts i (n ∷ ns) h =
     ⊎_elim
     (λ e. ap (λ b. b || is_named (map (facts_change act facts) ns) i) (eq-eqb n i (sym e)))
-    (λ m. either (n == i) (is_named (map (facts_change act facts) ns) i) (named_has act facts i ns m))
+    (λ m. or_right (n == i) (is_named (map (facts_change act facts) ns) i) (named_has act facts i ns m))
     h
 
 no_job : Job
@@ -148,18 +112,20 @@ module _ (act : Act) (only : Option ℕ) (s : State) (board : List BoardRow) (p 
 
   passes_is : (other : Job) (i : ℕ) → i < length js → passes i ≡ test (slice_index_or js i other)
   passes_is other i l =
-      let number : number_at (numbers_of s p) i ≡ (slice_index_or js i other).id = get_or-map (λ (j : Job). j.id) js i other 0 l in
+      let named : number_at (numbers_of s p) i ≡ (slice_index_or js i other).id = get_or-map number js i other 0 l in
       let row : row_at (rows_of s board p) i ≡ row_for board (slice_index_or js i other).id
-      = get_or-map (row_for board) (numbers_of s p) i 0 no_row (subst (λ n. i < n) (sym (length-map js (λ (j : Job). j.id))) l) ∙ ap (row_for board) number in
-      λ k. is_asked only (number k) && is_permitted act (row k).status
+      = get_or-map (row_for board) (numbers_of s p) i 0 no_row (subst (λ n. i < n) (sym (length-map js number)) l) ∙ ap (row_for board) named in
+      λ k. is_asked only (named k) && is_permitted act (row k).status
 
   its_places : (i : ℕ) → Has i places → (i < length js) × (passes i ≡ true)
   its_places i k = let w = has_filter passes i (range_with_len 0 (length js)) k in let r = in_range 0 (length js) i w.0 in let l : i < 0 + length js = r.1 in (omega arith, w.1)
 
   jobs_are : (other : Job) → map (λ i. slice_index_or js i other) places ≡ acted_jobs act only s board p
   jobs_are other =
-      filter_places other test passes (λ i. slice_index_or js i other) 0 js
-      (λ i l. let z : 0 + i ≡ i = omega arith in (ap (λ n. slice_index_or js n other) z, ap passes z ∙ passes_is other i l))
+      let at : ℕ → Job = λ i. slice_index_or js i other in
+      ap (map at) (filter_same passes (λ i. test (at i)) (range_with_len 0 (length js))
+      (λ i k. let w = in_range 0 (length js) i k in let l : i < 0 + length js = w.1 in passes_is other i (omega arith)))
+      ∙ (map_filter at test (range_with_len 0 (length js)) ∙ ap (filter test) (sym (fill_by_all at js (length js) other refl (λ k l. refl))))
 
   target_at : (i : ℕ) → i < length js → facts_at (facts_acted act s p test) i ≡ (if passes i then acted act (facts_at old_facts i) else facts_at old_facts i)
   target_at i l =
@@ -184,29 +150,28 @@ module _ (act : Act) (only : Option ℕ) (s : State) (board : List BoardRow) (p 
       (λ q. q)
       (cases_Bool (passes i)))))
 
-  pub outcome_is : (jobs : List Job) (b : BoardState) (changes : List FactsChange) (fresh : List Facts) (o : Outcome) → jobs ≡ js → IsBoardOf s board p b
+  pub outcome_is : (jobs : List Job) (b : BoardState) (changes : List FactsChange) (o : Outcome) → jobs ≡ js → IsBoardOf s board p b
       → o.places.items ≡ filter (is_acted_at act only (map (λ j. j.id) jobs) b.rows) (range_with_len 0 (length jobs)) → changes ≡ map (facts_change act b.facts) o.places.items
-      → o.facts.items ≡ fresh → (AreRows b.graph b.facts b.rows → fresh ≡ replaced changes b.facts)
+      → (AreRows b.graph b.facts b.rows → o.facts.items ≡ replaced changes b.facts)
       → length o.rows.items ≡ length b.rows → (AreRows b.graph b.facts b.rows → AreRows b.graph (replaced changes b.facts) o.rows.items)
       → o.changed.items ≡ changed_rows (map (λ j. j.id) jobs) b.rows o.rows.items → IsOutcome act only s board p o
-  outcome_is jobs b changes fresh o same is at changed new_facts now long right put =
-      let before = loaded_right s board p b are is in
+  outcome_is jobs b changes o same is at changed facts long right put =
+      let after : State = acted_state act only s board p in
+      let state : after ≡ t s act p test sound = after_is s act p test sound in
       let places_are : o.places.items ≡ places
-      = at ∙ (λ i. filter (is_acted_at act only (map (λ (j : Job). j.id) (same i)) (is.its_rows i)) (range_with_len 0 (length (same i)))) in
-      let replaced_are : replaced changes b.facts ≡ facts_acted act s p test
-      = (λ i. replaced (changed i) b.facts) ∙ ((λ i. replaced (map (facts_change act (is.its_facts i)) (places_are i)) (is.its_facts i)) ∙ facts_are) in
-      let long_there : length o.rows.items ≡ length (numbers_of s p) = long ∙ (ap length is.its_rows ∙ length-map (numbers_of s p) (row_for board)) in
-      let right_here : AreRows (graph_of s p) (facts_acted act s p test) o.rows.items
-      = subst (λ fs. AreRows (graph_of s p) fs o.rows.items) replaced_are (right_there s board p b (replaced changes b.facts) o.rows.items is (right before)) in
-      let puts_are : o.changed.items ≡ changed_rows (numbers_of s p) (rows_of s board p) o.rows.items
-      = put ∙ (λ i. changed_rows (map (λ (j : Job). j.id) (same i)) (is.its_rows i) o.rows.items) in
+      = at ∙ (λ i. filter (is_acted_at act only (map number (same i)) (is.its_rows i)) (range_with_len 0 (length (same i)))) in
+      let now : replaced changes b.facts ≡ facts_of after p
+      = (λ i. replaced (changed i) b.facts) ∙ ((λ i. replaced (map (facts_change act (is.its_facts i)) (places_are i)) (is.its_facts i))
+      ∙ (facts_are ∙ (sym (its_facts s act p test sound) ∙ ap (λ (w : State). facts_of w p) (sym state)))) in
+      let w = settled_by s after board p sound are (subst (λ (v : State). IsWithin s v p) (sym state) (within s act p test sound)) jobs b changes
+      (record { facts = o.facts; rows = o.rows; changed = o.changed }) same is now facts long right put in
       record {
-        within = subst (λ l. All (λ i. i < length js) l) (sym places_are) (All-from_has (λ i. i < length js) places (λ i k. (its_places i k).0));
+        within = subst (All (λ i. i < length js)) (sym places_are) (All-from_has (λ i. i < length js) places (λ i k. (its_places i k).0));
         jobs = λ other. ap (map (λ i. slice_index_or js i other)) places_are ∙ jobs_are other;
-        facts = new_facts ∙ (now before ∙ (replaced_are ∙ (sym (its_facts s act p test sound) ∙ ap (λ (w : State). facts_of w p) (sym (after_is s act p test sound)))));
-        rows = act_rows s act p test o.rows.items sound long_there right_here;
-        differing = puts_are;
-        board = subst (λ rs. AreBoard (acted_state act only s board p) (put_rows rs board)) (sym puts_are) (act_board s act p test o.rows.items sound long_there right_here board are);
+        facts = w.facts;
+        rows = w.rows;
+        differing = w.differing;
+        board = w.board;
       }
 
 -- ---- places of a board
@@ -219,12 +184,8 @@ all_there r n m places e same =
 pub all_positions : (act : Act) (facts : List Facts) (m : ℕ) (places : List ℕ) (changes : List FactsChange) (r : ℕ → Bool) (n : ℕ) → places ≡ filter r (range_with_len 0 n) → n ≡ m → changes ≡ map (facts_change act facts) places
     → All (λ c. c.position < m) changes
 all_positions act facts m places changes r n e same is =
-    subst (λ l. All (λ c. c.position < m) l) (sym is) (All-from_has (λ c. c.position < m) (map (facts_change act facts) places)
-    (λ c k. let w = map_has (facts_change act facts) c places k in
-    let f = has_filter r w.0 (range_with_len 0 n) (subst (Has w.0) e w.1.0) in
-    let b = in_range 0 n w.0 f.0 in
-    let l : w.0 < 0 + n = b.1 in
-    subst (λ (d : FactsChange). d.position < m) w.1.1 (omega arith)))
+    subst (All (λ c. c.position < m)) (sym is) (All-from_has (λ c. c.position < m) (map (facts_change act facts) places)
+    (λ c k. let w = map_has (facts_change act facts) c places k in subst (λ (d : FactsChange). d.position < m) w.1.1 (has_from_all (λ i. i < m) w.0 places (all_there r n m places e same) w.1.0)))
 
 -- ---- one job
 
@@ -247,6 +208,6 @@ filter_one {A} id q x low (z ∷ zs) r h =
 pub one_acted : (act : Act) (s : State) (board : List BoardRow) (job : Job) → Sound s → Has job s.jobs
     → acted_jobs act (Some job.id) s board job.pipeline ≡ (if is_permitted act (status_for board job.id) then job ∷ [] else [])
 one_acted act s board job sound has =
-    filter_one (λ (j : Job). j.id) (λ (j : Job). is_permitted act (status_for board j.id)) job 0 (jobs_of s job.pipeline)
-    (rising_filter (λ (j : Job). j.id) (λ (j : Job). j.pipeline == job.pipeline) 0 s.jobs sound.jobs)
+    filter_one number (λ (j : Job). is_permitted act (status_for board j.id)) job 0 (jobs_of s job.pipeline)
+    (rising_filter number (λ (j : Job). j.pipeline == job.pipeline) 0 s.jobs sound.jobs)
     (filter_has (λ (j : Job). j.pipeline == job.pipeline) job s.jobs has (eq-eqb job.pipeline job.pipeline refl))

@@ -9,12 +9,11 @@ use Rattle.ci_machine.proofs.Keyed.{Has, has_from_all}
 use Rattle.ci_machine_steps.proofs.Sound.{Sound}
 use Rattle.ci_machine_steps.proofs.Alike.{shown_alike}
 use Rattle.ci_machine_statuses.specs.declared.act.Act.{Act}
-use Rattle.ci_machine_statuses.specs.declared.act.Act.TheVariants.{Play, Retry, Cancel}
 use Rattle.ci_machine_statuses.specs.declared.outcome.Outcome.{Outcome}
-use Rattle.ci_machine_statuses.specs.Acts.{is_permitted, marked, act_changes, is_acted_on, acted_jobs, acted_state, shows_job_by, shows_pipeline_by, IsOutcome}
-use Rattle.ci_machine_statuses.proofs.Puts.{cons_same}
+use Rattle.ci_machine_statuses.specs.Acts.{is_permitted, act_changes, is_acted_on, acted_jobs, acted_state, shows_job_by, shows_pipeline_by, IsOutcome}
+use Rattle.ci_machine_statuses.proofs.Puts.{number, cons_same}
 use Rattle.ci_machine_statuses.proofs.ActLines.{own_rows, rows_after}
-use Rattle.ci_machine_statuses.proofs.ActFacts.{after_is, of_job, jobs_after, keeps, all_keep, marked_part}
+use Rattle.ci_machine_statuses.proofs.ActFacts.{after_is, of_job, jobs_after, keeps, all_keep}
 use Rattle.ci_machine_statuses.proofs.ActPlaces.{one_acted}
 
 -- ---- one job
@@ -47,10 +46,10 @@ module _ (act : Act) (s : State) (board : List BoardRow) (job : Job) (o : Outcom
 
   row_is : row_at o.rows.items at.place ≡ row_for after job.id
   row_is =
-      let number : slice_index_or (numbers_of s p) at.place 0 ≡ job.id = get_or-map (λ (j : Job). j.id) (jobs_of s p) at.place job 0 at.there ∙ ap (λ (j : Job). j.id) at.is in
-      let there : at.place < length (numbers_of s p) = subst (λ n. at.place < n) (sym (length-map (jobs_of s p) (λ (j : Job). j.id))) at.there in
+      let named : slice_index_or (numbers_of s p) at.place 0 ≡ job.id = get_or-map number (jobs_of s p) at.place job 0 at.there ∙ ap number at.is in
+      let there : at.place < length (numbers_of s p) = subst (λ n. at.place < n) (sym (length-map (jobs_of s p) number)) at.there in
       ap (λ (rows : List Row). row_at rows at.place) (sym (own_rows act (Some job.id) s board p o sound outcome))
-      ∙ (get_or-map (row_for after) (numbers_of s p) at.place 0 no_row there ∙ ap (row_for after) number)
+      ∙ (get_or-map (row_for after) (numbers_of s p) at.place 0 no_row there ∙ ap (row_for after) named)
 
   pub shows_job : (i : ℕ) × ((o.places.items ≡ i ∷ []) × ShowsJobAfter s job (act_changes act s (job ∷ [])) (shows_job_by s after (act_changes act s (job ∷ [])) job (row_at o.rows.items i).status))
   shows_job = (
@@ -63,38 +62,6 @@ module _ (act : Act) (s : State) (board : List BoardRow) (job : Job) (o : Outcom
   )
 
 -- ---- a pipeline
-
--- what is shown of a job doesn't change
-marked_shown : (act : Act) (s : State) (claims : List Claim) (project : ℕ) (status : Status) (j : Job) → job_data (printed_status claims project (marked act s j) status) (marked act s j) ≡ job_data (printed_status claims project j status) j
-marked_shown Play s claims project Status.Created j = refl
-marked_shown Play s claims project Status.Pending j = refl
-marked_shown Play s claims project Status.Running j = refl
-marked_shown Play s claims project Status.Success j = refl
-marked_shown Play s claims project Status.Failed j = refl
-marked_shown Play s claims project Status.Canceled j = refl
-marked_shown Play s claims project Status.Skipped j = refl
-marked_shown Play s claims project Status.Manual j = refl
-marked_shown Retry s claims project Status.Created j = refl
-marked_shown Retry s claims project Status.Pending j = refl
-marked_shown Retry s claims project Status.Running j = refl
-marked_shown Retry s claims project Status.Success j = refl
-marked_shown Retry s claims project Status.Failed j = refl
-marked_shown Retry s claims project Status.Canceled j = refl
-marked_shown Retry s claims project Status.Skipped j = refl
-marked_shown Retry s claims project Status.Manual j = refl
-marked_shown Cancel s claims project Status.Created j = refl
-marked_shown Cancel s claims project Status.Pending j = refl
-marked_shown Cancel s claims project Status.Running j = refl
-marked_shown Cancel s claims project Status.Success j = refl
-marked_shown Cancel s claims project Status.Failed j = refl
-marked_shown Cancel s claims project Status.Canceled j = refl
-marked_shown Cancel s claims project Status.Skipped j = refl
-marked_shown Cancel s claims project Status.Manual j = refl
-
-pub marked_group : (act : Act) (s : State) (j : Job) → (marked act s j).options.resource_group ≡ j.options.resource_group
-marked_group Play s j = refl
-marked_group Retry s j = refl
-marked_group Cancel s j = refl
 
 same_shown : (claims : List Claim) (project : ℕ) (F : Job → Job) → ((status : Status) (j : Job) → job_data (printed_status claims project (F j) status) (F j) ≡ job_data (printed_status claims project j status) j) → (js : List Job) (rows : List Row)
     → jobs_data claims project (map F js) rows ≡ jobs_data claims project js rows
@@ -124,10 +91,10 @@ module _ (act : Act) (s : State) (board : List BoardRow) (q : Pipeline) (o : Out
   shown_same : jobs_data claims q.project (jobs_of new q.id) o.rows.items ≡ jobs_data claims q.project (jobs_of s q.id) o.rows.items
   shown_same =
       ap (λ js. jobs_data claims q.project js o.rows.items) new_jobs
-      ∙ same_shown claims q.project (of_job s act q.id wide sound) (λ status j. keeps s act q.id wide sound (λ i. job_data (printed_status claims q.project i status) i) (marked_shown act s claims q.project status) j) (jobs_of s q.id) o.rows.items
+      ∙ same_shown claims q.project (of_job s act q.id wide sound) (λ status. keeps s act q.id wide sound (λ i. job_data (printed_status claims q.project i status) i) (λ i a b n. refl)) (jobs_of s q.id) o.rows.items
 
   parts_same : map (λ (j : Job). j.options.part) (jobs_of new q.id) ≡ map (λ (j : Job). j.options.part) (jobs_of s q.id)
-  parts_same = ap (map (λ (j : Job). j.options.part)) new_jobs ∙ all_keep s act q.id wide sound (λ (j : Job). j.options.part) (marked_part act s) (jobs_of s q.id)
+  parts_same = ap (map (λ (j : Job). j.options.part)) new_jobs ∙ all_keep s act q.id wide sound (λ j. j.options.part) (λ i a b n. refl) (jobs_of s q.id)
 
   pub shows_pipeline : ShowsPipelineAfter s q changes (shows_pipeline_by s shown changes q (jobs_of s q.id) o.facts.items o.rows.items)
   shows_pipeline = (

@@ -8,16 +8,13 @@ use Rattle.ci_machine_steps.proofs.Behind.{put_all, all_behind, nat_less}
 use Rattle.ci_machine_steps.proofs.Created.{after_creation, new_rise, new_are, new_numbered, needs_ordered, needs_are, pairs_inside, jobs_behind}
 use Rattle.ci_machine_steps.proofs.Sound.{Sound, ascend_from_rising}
 use Rattle.ci_machine_statuses.specs.Changes.{IsMade}
-use Rattle.ci_machine_statuses.proofs.Puts.{put_last}
+use Rattle.ci_machine_statuses.proofs.Puts.{number, put_last}
 
 -- a pipeline is made behind all others
 pub record Created (s : State) (c : Creation) : Type 0 where
   pub below : (q : Pipeline) → Has q s.pipelines → q.id < c.pipeline.id
   pub pipelines : (applied (creation_changes s.next.job c) s).pipelines ≡ s.pipelines ++ c.pipeline ∷ []
   pub made : IsMade s (applied (creation_changes s.next.job c) s) c.pipeline.id c.jobs c.needs
-
-abbrev number : Job → ℕ
-number j = j.id
 
 module _ (s : State) (new : NewPipeline) (given : Given) (now : ℕ) (text : List ℕ) (laid : Layout) (sound : Sound s) (lays : IsLaidOut text given (Ok laid)) where
   abbrev its : Creation

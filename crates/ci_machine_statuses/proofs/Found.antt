@@ -9,14 +9,12 @@ use Rattle.ci_machine_steps.proofs.Sound.{rising_from_ascend}
 use Rattle.ci_machine_statuses.specs.Lookups.{place_of}
 use Rattle.ci_machine_statuses.proofs.Positions.{numbers_ascend, place_some}
 use Rattle.ci_machine_statuses.proofs.RowPuts.{its_row}
+use Rattle.ci_machine_statuses.proofs.Puts.{job_of}
 
 -- what holds of a fault holds of it where it is handed on
 pub passed_on : {A E : Type 0} (r : Result A E) (x : E) (P : E → Type 0) → IsErrAnd r (λ e. e ≡ x) → P x → IfErr r P
 passed_on (Ok a) x P is p = tt
 passed_on (Err e) x P is p = subst P (sym is) p
-
-abbrev job_of : BoardRow → ℕ
-job_of r = r.job
 
 found_row : (rows : List BoardRow) (n place : ℕ) (d : BoardRow) → IsStrictlySortedBy nat_cmp (map (λ r. r.job) rows) → place_of (map (λ r. r.job) rows) n ≡ Some place → row_for rows n ≡ (slice_index_or rows place d).row
 found_row rows n place d up e =

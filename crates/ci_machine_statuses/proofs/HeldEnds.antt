@@ -1,22 +1,19 @@
 -- The end of an attempt: its group is free, and its pipeline may be finished.
-use Rattle.std.proofs.Common.{◌≡◌, ◌<◌, Bool, true, false, ◌==◌, ◌||◌, ◌&&◌, List, [], ◌∷◌, Some, refl, sym, ap, subst, ◌∙◌, ⊎_elim, eqb-true, eq-eqb}
+use Rattle.std.proofs.Common.{◌≡◌, Bool, true, false, ◌==◌, ◌||◌, ◌&&◌, List, [], ◌∷◌, Some, refl, sym, ap, subst, ◌∙◌, ⊎_elim, eqb-true, eq-eqb}
 use Rattle.std.proofs.lemmas.Bool.{cases_Bool, both_ways, and_parts}
-use Rattle.std.proofs.lemmas.List.{length-map}
-use Rattle.ci_machine_steps.specs.Prelude.{Status, Attempt, BoardRow, Job, Need, Pipeline, Record, Put, State, attempt_cmp, Kept, put_rows, written, jobs_of, numbers_of, AreBoard}
-use Rattle.ci_machine_steps.specs.Prelude.{status_of_jobs, is_live, is_lease_on, with_status, last_attempt, unfinished_in, AreIndexes}
+use Rattle.ci_machine_steps.specs.Prelude.{Status, Attempt, BoardRow, Job, Need, Pipeline, Record, Put, State, attempt_cmp, Kept, written, jobs_of, numbers_of, AreBoard}
+use Rattle.ci_machine_steps.specs.Prelude.{status_of_jobs, is_live, is_lease_on, with_status, last_attempt, AreIndexes}
 use Rattle.ci_machine.proofs.Keyed.{Has, filter_has, has_map, has_put_other, put_has, one_at, different, unequal, has_from_contains}
 use Rattle.ci_machine_steps.proofs.Sound.{Sound}
-use Rattle.ci_machine_statuses.specs.Changes.{IsWithin, HasLive}
+use Rattle.ci_machine_statuses.specs.Changes.{HasLive}
 use Rattle.ci_machine_statuses.specs.Ends.{ended_state, IsSettled}
 use Rattle.ci_machine_statuses.specs.Lookups.{AreRecords}
 use Rattle.ci_machine_statuses.specs.declared.end.Settled.{Settled}
-use Rattle.ci_machine_statuses.proofs.ActRecords.{all_leases}
-use Rattle.ci_machine_statuses.proofs.Positions.{place_of_has}
 use Rattle.ci_machine_statuses.proofs.Ends.{within}
 use Rattle.ci_machine_statuses.specs.HolderChanges.{of_pipeline}
-use Rattle.ci_machine_statuses.proofs.Holding.{Ends, rows_left}
-use Rattle.ci_machine_statuses.proofs.HeldOpening.{turned_are}
-use Rattle.ci_machine_statuses.proofs.HeldChanged.{leads_to}
+use Rattle.ci_machine_statuses.proofs.Holding.{Ends}
+use Rattle.ci_machine_statuses.proofs.HeldChanged.{indexed_again}
+use Rattle.ci_machine_statuses.proofs.Puts.{number, attempt_id}
 
 either_false : (b : Bool) → (b || false) ≡ true → b ≡ true
 either_false true e = refl
@@ -56,49 +53,30 @@ module _ (k : Kept) (p : Pipeline) (job : Job) (x : Attempt) (sound : Sound k.st
     stay = λ b h l left. record {
       attempt = b;
       has = put_has attempt_cmp x b s.attempts h (unequal b.id x.id (λ e.
-          both_ways (gone b) left (ap gone (one_at (λ (c : Attempt). c.id) b a 0 s.attempts sound.attempts h a_has (e ∙ sym live.2)) ∙ is_gone)));
+          both_ways (gone b) left (ap gone (one_at attempt_id b a 0 s.attempts sound.attempts h a_has (e ∙ sym live.2)) ∙ is_gone)));
       id = refl;
       job = refl;
       live = l;
     };
     were = λ b h l. ⊎_elim
         (λ e. absurd (both_ways (is_live x) over (ap is_live (sym e) ∙ l)))
-        (λ m. record {
-          attempt = b;
-          has = m.0;
-          id = refl;
-          job = refl;
-          live = l;
-          left = ⊎_elim (λ e. absurd (different b.id x.id m.1 (ap (λ (c : Attempt). c.id) (the_lease b m.0 e) ∙ live.2))) (λ e. e) (cases_Bool (gone b));
-        })
+        (λ m. (
+          record { attempt = b; has = m.0; id = refl; job = refl; live = l },
+          ⊎_elim (λ e. absurd (different b.id x.id m.1 (ap attempt_id (the_lease b m.0 e) ∙ live.2))) (λ e. e) (cases_Bool (gone b)),
+        ))
         (has_put_other attempt_cmp x b s.attempts h);
     held = λ b h live. refl;
   }
 
-  is_within : IsWithin s t p.id
-  is_within =
-      let numbered : Has x.job (numbers_of s p.id)
-      = subst (λ n. Has n (numbers_of s p.id)) (sym its_job) (has_map (λ (j : Job). j.id) job (jobs_of s p.id) (filter_has (λ (j : Job). j.pipeline == p.id) job s.jobs there (eq-eqb job.pipeline p.id inside))) in
-      let w = place_of_has x.job (numbers_of s p.id) numbered in
-      within s k.board p.id sound are x live w.0 (subst (λ n. w.0 < n) (length-map (jobs_of s p.id) (λ (j : Job). j.id)) w.1.0) w.1.1
+  job_of_it : Has job (jobs_of s p.id)
+  job_of_it = filter_has (λ (j : Job). j.pipeline == p.id) job s.jobs there (eq-eqb job.pipeline p.id inside)
 
   pub end_indexed : (jobs : List Job) (needs : List Need) (attempts : List Attempt) (rows : List BoardRow) (v : Settled) (before after : Status) → AreIndexes k
       → AreRecords s k.board p.id jobs needs attempts rows → IsSettled s t k.board p.id v
       → before ≡ (with_status s k.board p).status → after ≡ status_of_jobs jobs v.facts.items v.rows.items
       → AreIndexes (written (Put (Record.Attempt x) ∷ []) v.changed.items (of_pipeline p (job ∷ []) attempts before after) k)
   end_indexed jobs needs attempts rows v before after indexes records settled was is =
-      let chosen_there : (j : Job) → Has j (job ∷ []) → Has j jobs
-      = λ j h. ⊎_elim
-      (λ e. subst (λ (i : Job). Has i jobs) (sym e) (subst (λ (js : List Job). Has job js) (sym records.are_jobs) (filter_has (λ (i : Job). i.pipeline == p.id) job s.jobs there (eq-eqb job.pipeline p.id inside))))
-      (λ m. absurd m) h in
-      let inside_there : (j : Job) → Has j (job ∷ []) → Has j s.jobs × (j.pipeline ≡ p.id)
-      = λ j h. ⊎_elim (λ e. subst (λ (i : Job). Has i s.jobs × (i.pipeline ≡ p.id)) (sym e) (there, inside)) (λ m. absurd m) h in
-      subst AreIndexes
-      (sym (leads_to s p (job ∷ []) attempts before after (record k { state = t; board = put_rows v.changed.items k.board }) sound has inside_there
-      (all_leases s k.board p.id jobs needs attempts rows records (job ∷ []) chosen_there)))
-      (record {
-        held = rows_left s t gone sound.attempts ends k.holders indexes.held;
-        unfinished = turned_are s t k.board p sound are is_within refl has v.facts.items v.rows.items settled.facts settled.rows before after k.unfinished was
-            (is ∙ ap (λ (js : List Job). status_of_jobs js v.facts.items v.rows.items) records.are_jobs) indexes.unfinished
-            ∙ ap (λ (rs : List BoardRow). unfinished_in t (put_rows rs k.board)) (sym settled.differing);
-      })
+      indexed_again k t p sound has jobs needs attempts rows records (job ∷ [])
+      (λ j h. ⊎_elim (λ e. subst (λ (i : Job). Has i jobs) (sym e) (subst (λ (js : List Job). Has job js) (sym records.are_jobs) job_of_it)) (λ m. absurd m) h)
+      are indexes (within s k.board p.id sound are x live (subst (λ n. Has n (numbers_of s p.id)) (sym its_job) (has_map number job (jobs_of s p.id) job_of_it))) refl ends
+      v.facts.items v.rows.items v.changed.items settled.facts settled.rows settled.differing before after was is

@@ -14,13 +14,12 @@ use Rattle.ci_machine.proofs.Keyed.{Has, find_has, filter_has, has_map, has_put,
 use Rattle.ci_machine_steps.proofs.Finished.{some_is, running_open}
 use Rattle.ci_machine_steps.proofs.Sound.{Sound}
 use Rattle.ci_machine_statuses.specs.Changes.{started_row}
-use Rattle.ci_machine_statuses.proofs.Puts.{row_put}
+use Rattle.ci_machine_statuses.proofs.Puts.{number, put_here, row_put}
 use Rattle.ci_machine_statuses.proofs.Positions.{place_of_has}
-use Rattle.ci_machine_statuses.proofs.Grants.{facts_there, rows_there, pending_is}
-use Rattle.ci_machine_statuses.proofs.HeldLists.{put_here}
+use Rattle.ci_machine_statuses.proofs.Grants.{elsewhere, pending_is}
 use Rattle.ci_machine_statuses.proofs.HeldRows.{HoldsMore, more_rows}
 use Rattle.ci_machine_statuses.proofs.Holding.{in_holders, of_holders}
-use Rattle.ci_machine_statuses.proofs.HeldOpening.{number, same_status}
+use Rattle.ci_machine_statuses.proofs.HeldOpening.{as_row, same_open}
 
 -- ---- a pending or running job leaves its pipeline unfinished
 
@@ -38,7 +37,7 @@ open_at s board q n h way =
     let its : (row_at rows w.0).status ≡ (row_for board n).status = ap (λ (r : Row). r.status) (get_or-map (row_for board) (numbers_of s q.id) w.0 0 no_row w.1.0 ∙ ap (row_for board) w.1.1) in
     let parts : List Part = map (λ (j : Job). j.options.part) (jobs_of s q.id) in
     let inside : w.0 < length parts
-    = subst (λ m. w.0 < m) (length-map (jobs_of s q.id) (λ (j : Job). j.id) ∙ sym (length-map (jobs_of s q.id) (λ (j : Job). j.options.part))) w.1.0 in
+    = subst (λ m. w.0 < m) (length-map (jobs_of s q.id) number ∙ sym (length-map (jobs_of s q.id) (λ (j : Job). j.options.part))) w.1.0 in
     ⊎_elim
     (λ e. pending_open parts (facts_of s q.id) (statuses rows) (some_is (length parts) (has_status (statuses rows) Status.Pending) w.0 inside (ap (is_status Status.Pending) (its ∙ e))))
     (λ e. running_open parts (facts_of s q.id) (statuses rows) (some_is (length parts) (has_status (statuses rows) Status.Running) w.0 inside (ap (is_status Status.Running) (its ∙ e))))
@@ -64,7 +63,7 @@ module _ (k : Kept) (j : Job) (x : Attempt) (sound : Sound k.state) (are : AreBo
   then = record k { state = t; board = after }
 
   found : job_at s x.job ≡ Some j
-  found = subst (λ n. job_at s n ≡ Some j) (sym its_job) (find_has (λ (i : Job). i.id) j 0 s.jobs sound.jobs has)
+  found = subst (λ n. job_at s n ≡ Some j) (sym its_job) (find_has number j 0 s.jobs sound.jobs has)
 
   abbrev its_group : List Holder
   its_group = group_held x.id (queued s j).project j.options.resource_group
@@ -93,7 +92,7 @@ module _ (k : Kept) (j : Job) (x : Attempt) (sound : Sound k.state) (are : AreBo
   }
 
   numbered_here : Has j.id (numbers_of s j.pipeline)
-  numbered_here = has_map (λ (i : Job). i.id) j (jobs_of s j.pipeline) (filter_has (λ (i : Job). i.pipeline == j.pipeline) j s.jobs has (eq-eqb j.pipeline j.pipeline refl))
+  numbered_here = has_map number j (jobs_of s j.pipeline) (filter_has (λ (i : Job). i.pipeline == j.pipeline) j s.jobs has (eq-eqb j.pipeline j.pipeline refl))
 
   same : (q : Pipeline) → is_open_in t after q ≡ is_open_in s k.board q
   same q =
@@ -101,11 +100,10 @@ module _ (k : Kept) (j : Job) (x : Attempt) (sound : Sound k.state) (are : AreBo
       (λ e. let here = subst (λ n. Has j.id (numbers_of s n)) (eqb-true j.pipeline q.id e) numbered_here in
       open_at t after q j.id here (inr (ap (λ (r : Row). r.status) (row_put (started_row k.board j.id) k.board)))
       ∙ sym (open_at s k.board q j.id here (inl (pending_is (row_for k.board j.id).status pending))))
-      (λ e. let d = eqb-false j.pipeline q.id e in
-      same_status s t k.board after q refl (facts_there s k.board j x sound are has pending at_next its_job live q.id d) (rows_there s k.board j x sound are has pending at_next its_job live q.id d))
+      (λ e. same_open s t k.board after q (elsewhere s k.board j x sound are has pending at_next its_job live q.id (eqb-false j.pipeline q.id e)))
 
   pub granted : AreIndexes (written (numbered (Record.Attempt x) Counter.Attempt k.state.next.attempt) (started_row k.board j.id ∷ []) (holds_group x.id (queued k.state j)) k)
   granted = subst AreIndexes (sym (hold_alone x.id (queued s j).project j.options.resource_group then)) (record {
     held = more_rows s t x.id (queued s j).project j.options.resource_group then (free_not_held (groups_in s k.board) j.pipeline (queued s j).project j.options.resource_group free) more indexes.held;
-    unfinished = indexes.unfinished ∙ (λ i. map number (filter (λ q. sym (same q) i) s.pipelines));
+    unfinished = indexes.unfinished ∙ (λ i. map as_row (filter (λ q. sym (same q) i) s.pipelines));
   })

@@ -1,14 +1,14 @@
 -- Lists of records in their order, and lists joined of others.
-use Rattle.std.proofs.Common.{◌≡◌, ℕ, ◌+◌, ◌≤◌, Bool, true, false, List, [], ◌∷◌, ◌++◌, map, find, flat_map, Some, option_map, is_lt, Ordering, Less, Equal, refl, sym, ap, subst}
-use Rattle.std.proofs.Common.{◌∙◌, inl, inr, ⊎_elim, arith}
-use Rattle.std.specs.List.{list_any, AllByRecursion}
+use Rattle.std.proofs.Common.{◌≡◌, ◌+◌, Bool, true, false, ◌||◌, List, [], ◌∷◌, ◌++◌, map, find, flat_map, Some, option_map, Ordering, Less, Equal, refl, sym, ap, subst}
+use Rattle.std.proofs.Common.{◌∙◌, inl, inr, ⊎_elim}
+use Rattle.std.specs.List.{list_any}
 use Rattle.std.specs.List.Sorted.{IsStrictlySortedBy}
-use Rattle.std.proofs.lemmas.Bool.{cond_both, cond-true, cond-false, cases_Bool, false≢true}
-use Rattle.ci_machine_steps.specs.Prelude.{placed, others, put}
-use Rattle.ci_machine.proofs.Keyed.{Has, Rising, rising_from}
+use Rattle.std.proofs.lemmas.Bool.{cond_both, cond-true, cond-false, cases_Bool, both_ways, false≢true}
+use Rattle.ci_machine.proofs.Keyed.{Has, all_from_has, has_from_all}
+use Rattle.ci_machine.proofs.Tests.{has_any}
+use Rattle.std.proofs.lemmas.List.Elements.{All-from_recursion}
 use Rattle.ci_machine_steps.proofs.Behind.{in_either, has_left, has_right}
 use Rattle.ci_machine_steps.proofs.Variables.{Ordered}
-use Rattle.ci_machine_statuses.proofs.Puts.{cons_same}
 
 -- ---- joined lists
 
@@ -34,27 +34,10 @@ flat_same f g (x ∷ xs) h = λ i. h x (inl refl) i ++ flat_same f g xs (λ y k.
 pub find_any : {A : Type 0} (p : A → Bool) (xs : List A) → list_any p xs ≡ true → (x : A) × (find p xs ≡ Some x)
 find_any p [] e = absurd (false≢true e)
 find_any p (x ∷ xs) e =
-    ⊎_elim
-    (λ t. (x, cond-true (p x) (Some x) (find p xs) t))
-    (λ f. let w = find_any p xs (sym (rest f) ∙ e) in (w.0, cond-false (p x) (Some x) (find p xs) f ∙ w.1))
-    (cases_Bool (p x))
-  where
-    rest : p x ≡ false → list_any p (x ∷ xs) ≡ list_any p xs
-    rest f = rw f refl
+    cond_both (p x) (Some x) (find p xs) (λ o. (y : _) × (o ≡ Some y)) (λ _. (x, refl)) (λ f. find_any p xs (sym (ap (λ b. b || list_any p xs) f) ∙ e))
 
 pub none_any : {A : Type 0} (p : A → Bool) (x : A) (xs : List A) → list_any p xs ≡ false → Has x xs → p x ≡ false
-none_any p x [] e h = absurd h
-none_any p x (z ∷ zs) e h =
-    ⊎_elim
-    (λ t. absurd (false≢true (sym e ∙ first t)))
-    (λ f. ⊎_elim (λ q. ap p q ∙ f) (λ m. none_any p x zs (sym (rest f) ∙ e) m) h)
-    (cases_Bool (p z))
-  where
-    first : p z ≡ true → list_any p (z ∷ zs) ≡ true
-    first t = rw t refl
-
-    rest : p z ≡ false → list_any p (z ∷ zs) ≡ list_any p zs
-    rest f = rw f refl
+none_any p x xs e h = ⊎_elim (λ t. absurd (both_ways (list_any p xs) e (has_any p x xs h t))) (λ f. f) (cases_Bool (p x))
 
 pub find_left : {A : Type 0} (p : A → Bool) (x : A) (xs ys : List A) → find p xs ≡ Some x → find p (xs ++ ys) ≡ Some x
 find_left p x [] ys e = absurd (cc)
@@ -67,57 +50,20 @@ find_left p x (z ∷ zs) ys e =
 pub find_mapped : {A : Type 0} (p : A → Bool) (f : A → A) (xs : List A) → ((x : A) → p (f x) ≡ p x) → find p (map f xs) ≡ option_map f (find p xs)
 find_mapped p f [] same = refl
 find_mapped p f (x ∷ xs) same =
-    ⊎_elim
-    (λ t. cond-true (p (f x)) (Some (f x)) (find p (map f xs)) (same x ∙ t) ∙ sym (ap (option_map f) (cond-true (p x) (Some x) (find p xs) t)))
-    (λ e. cond-false (p (f x)) (Some (f x)) (find p (map f xs)) (same x ∙ e) ∙ (find_mapped p f xs same ∙ sym (ap (option_map f) (cond-false (p x) (Some x) (find p xs) e))))
-    (cases_Bool (p x))
-
--- ---- lists of the same records that rise are the same
-
-pub same_rising : {A : Type 0} (id : A → ℕ) (low high : ℕ) (xs ys : List A) → Rising id low xs → Rising id high ys → ((x : A) → Has x xs → Has x ys) → ((y : A) → Has y ys → Has y xs) → xs ≡ ys
-same_rising id low high [] [] r q there back = refl
-same_rising id low high [] (y ∷ ys) r q there back = absurd (back y (inl refl))
-same_rising id low high (x ∷ xs) [] r q there back = absurd (there x (inl refl))
-same_rising {A} id low high (x ∷ xs) (y ∷ ys) r q there back =
-    cons_same first
-    (same_rising id (id x + 1) (id y + 1) xs ys r.1 q.1
-    (λ z h. ⊎_elim (λ e. absurd (let m : id x + 1 ≤ id z = rising_from id z (id x + 1) xs r.1 h in let f : id z ≡ id x = ap id (e ∙ sym first) in omega arith)) (λ m. m) (there z (inr h)))
-    (λ z h. ⊎_elim (λ e. absurd (let m : id y + 1 ≤ id z = rising_from id z (id y + 1) ys q.1 h in let f : id z ≡ id y = ap id (e ∙ first) in omega arith)) (λ m. m) (back z (inr h))))
-  where
-    first : x ≡ y
-    first =
-        ⊎_elim (λ e. e)
-        (λ m. ⊎_elim (λ e. sym e)
-        (λ k. absurd (let a : id y + 1 ≤ id x = rising_from id x (id y + 1) ys q.1 m in let b : id x + 1 ≤ id y = rising_from id y (id x + 1) xs r.1 k in omega arith))
-        (back y (inl refl)))
-        (there x (inl refl))
+    cond_both (p x) (Some x) (find p xs) (λ o. find p (map f (x ∷ xs)) ≡ option_map f o)
+    (λ t. cond-true (p (f x)) (Some (f x)) (find p (map f xs)) (same x ∙ t)) (λ e. cond-false (p (f x)) (Some (f x)) (find p (map f xs)) (same x ∙ e) ∙ find_mapped p f xs same)
 
 -- ---- lists in their order
-
-pub placed_here : {A : Type 0} (cmp : A → A → Ordering) (x : A) (xs : List A) → Has x (placed cmp x xs)
-placed_here cmp x [] = inl refl
-placed_here cmp x (y ∷ ys) = cond_both (is_lt (cmp y x)) (y ∷ placed cmp x ys) (x ∷ y ∷ ys) (Has x) (λ e. inr (placed_here cmp x ys)) (λ e. inl refl)
-
-pub put_here : {A : Type 0} (cmp : A → A → Ordering) (x : A) (xs : List A) → Has x (put cmp x xs)
-put_here cmp x xs = placed_here cmp x (others cmp x xs)
-
-less_by : {A : Type 0} (cmp : A → A → Ordering) (x y : A) (xs : List A) → AllByRecursion (λ z. cmp x z ≡ Less) xs → Has y xs → cmp x y ≡ Less
-less_by cmp x y [] a h = absurd h
-less_by cmp x y (z ∷ zs) a h = ⊎_elim (λ e. ap (cmp x) e ∙ a.0) (λ m. less_by cmp x y zs a.1 m) h
 
 pub ordered : {A : Type 0} (cmp : A → A → Ordering) (xs : List A) → IsStrictlySortedBy cmp xs → Ordered cmp xs
 unfolding IsStrictlySortedBy
 ordered cmp [] a = tt
-ordered cmp (x ∷ xs) a = ((λ y h. less_by cmp x y xs a.0 h), ordered cmp xs a.1)
-
-by_less : {A : Type 0} (cmp : A → A → Ordering) (x : A) (xs : List A) → ((y : A) → Has y xs → cmp x y ≡ Less) → AllByRecursion (λ z. cmp x z ≡ Less) xs
-by_less cmp x [] h = tt
-by_less cmp x (y ∷ ys) h = (h y (inl refl), by_less cmp x ys (λ z k. h z (inr k)))
+ordered cmp (x ∷ xs) a = ((λ y h. has_from_all (λ z. cmp x z ≡ Less) y xs (All-from_recursion (λ z. cmp x z ≡ Less) xs a.0) h), ordered cmp xs a.1)
 
 pub ascends : {A : Type 0} (cmp : A → A → Ordering) (xs : List A) → Ordered cmp xs → IsStrictlySortedBy cmp xs
 unfolding IsStrictlySortedBy
 ascends cmp [] o = tt
-ascends cmp (x ∷ xs) o = (by_less cmp x xs o.0, ascends cmp xs o.1)
+ascends cmp (x ∷ xs) o = (all_from_has (λ z. cmp x z ≡ Less) xs o.0, ascends cmp xs o.1)
 
 not_both : (r : Ordering) → r ≡ Less → r ≡ Equal → ⊥
 not_both r e f = let g : Less ≡ Equal = sym e ∙ f in absurd (cc)

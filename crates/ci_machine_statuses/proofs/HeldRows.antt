@@ -16,7 +16,8 @@ use Rattle.ci_machine.proofs.Claims.{free_held}
 use Rattle.ci_machine.proofs.Keyed.{Has, has_filter, filter_has, has_put, put_has, equal, same, has_from_all, All-from_has, has_from_contains, contains_from_has}
 use Rattle.ci_machine.proofs.Keyed.{not_true}
 use Rattle.ci_machine_steps.proofs.Variables.{Ordered, filter_ordered, put_ordered}
-use Rattle.ci_machine_statuses.proofs.HeldLists.{none_any, put_here, ordered, ascends, one_of}
+use Rattle.ci_machine_statuses.proofs.HeldLists.{none_any, ordered, ascends, one_of}
+use Rattle.ci_machine_statuses.proofs.Puts.{put_here}
 
 -- ---- keys
 

@@ -1,18 +1,16 @@
 -- Which groups are held where leases end, and no other begins.
 use Rattle.std.proofs.Common.{◌≡◌, ℕ, true, false, ◌==◌, Bool, List, filter, flat_map, Contains, Option, Some, None, option_map, refl, sym, ap, subst, ◌∙◌, ⊎_elim, eqb-true}
 use Rattle.std.specs.List.{list_any}
-use Rattle.std.proofs.lemmas.Bool.{cases_Bool, both_ways, and_parts}
+use Rattle.std.proofs.lemmas.Bool.{cases_Bool, both_ways, false≢true, and_parts}
 use Rattle.ci_machine_steps.specs.Prelude.{Holder, Pipeline, Job, QueuedJob, Attempt, State, is_live, job_at, pipeline_at, project_or_none, queued, live_attempts, holds}
 use Rattle.ci_machine_steps.specs.Prelude.{is_lease_on, queued_at, group_held, held_by, held_of, holders, holder_cmp, AreHolders}
 use Rattle.ci_machine.proofs.Keyed.{Has, Rising, has_filter, filter_has, filter_none, has_find, find_has, one_at, has_from_all, All-from_has, has_from_contains, contains_from_has}
 use Rattle.ci_machine_steps.proofs.Variables.{Ordered}
 use Rattle.ci_machine_steps.proofs.Sound.{Sound}
 use Rattle.ci_machine_statuses.specs.HolderChanges.{held_among}
+use Rattle.ci_machine_statuses.proofs.Puts.{attempt_id}
 use Rattle.ci_machine_statuses.proofs.HeldLists.{flat_has, has_flat, find_any, ordered, ascends}
 use Rattle.ci_machine_statuses.proofs.HeldRows.{holds_own, one_row, without_all, without_ordered, in_without, has_without}
-
-abbrev attempt_id : Attempt → ℕ
-attempt_id a = a.id
 
 -- ---- what is held in a state
 
@@ -51,19 +49,11 @@ pub record IsLike (t : State) (a : Attempt) : Type 0 where
   pub job : attempt.job ≡ a.job
   pub live : is_live attempt ≡ true
 
-pub record IsLeft (s : State) (gone : Attempt → Bool) (b : Attempt) : Type 0 where
-  pub attempt : Attempt
-  pub has : Has attempt s.attempts
-  pub id : attempt.id ≡ b.id
-  pub job : attempt.job ≡ b.job
-  pub live : is_live attempt ≡ true
-  pub left : gone attempt ≡ false
-
 -- The live attempts that pass the test end, the other live ones stay, no other comes, and each job of one has the group and project that it had.
 pub record Ends (s t : State) (gone : Attempt → Bool) : Type 0 where
   pub lives : (a : Attempt) → gone a ≡ true → is_live a ≡ true
   pub stay : (a : Attempt) → Has a s.attempts → is_live a ≡ true → gone a ≡ false → IsLike t a
-  pub were : (b : Attempt) → Has b t.attempts → is_live b ≡ true → IsLeft s gone b
+  pub were : (b : Attempt) → Has b t.attempts → is_live b ≡ true → (w : IsLike s b) × (gone w.attempt ≡ false)
   pub held : (a : Attempt) → Has a s.attempts → is_live a ≡ true → held_by a.id (queued_at t a.job) ≡ held_by a.id (queued_at s a.job)
 
 module _ (s t : State) (gone : Attempt → Bool) (rise : Rising (λ a. a.id) 0 s.attempts) (ends : Ends s t gone) where
@@ -76,10 +66,11 @@ module _ (s t : State) (gone : Attempt → Bool) (rise : Rising (λ a. a.id) 0 s
   -- what is held then, was held before by an attempt that doesn't end
   before : (h : Holder) → IsHeld t h → (w : IsHeld s h) × (gone w.attempt ≡ false)
   before h w =
-      let a = ends.were w.attempt w.has w.live in
+      let were = ends.were w.attempt w.has w.live in
+      let a = were.0 in
       let same : held_of t w.attempt ≡ held_of s a.attempt
       = (λ i. held_by (sym a.id i) (queued_at t (sym a.job i))) ∙ ends.held a.attempt a.has a.live in
-      (record { attempt = a.attempt; has = a.has; live = a.live; its = subst (λ (l : List Holder). Has h l) same w.its }, a.left)
+      (record { attempt = a.attempt; has = a.has; live = a.live; its = subst (λ (l : List Holder). Has h l) same w.its }, were.1)
 
   after : (h : Holder) (w : IsHeld s h) → gone w.attempt ≡ false → IsHeld t h
   after h w left =
@@ -147,8 +138,10 @@ module _ (s : State) (sound : Sound s) (p : Pipeline) (has : Has p s.pipelines) 
       ∙ (ap (λ (n : ℕ). group_held a.id n j.options.resource_group) project
       ∙ sym (ap (λ (o : Option Job). held_by a.id (option_map (queued s) o)) found))
 
--- no lease ends
-pub rows_stay : (s t : State) (rows : List Holder) → Rising (λ a. a.id) 0 s.attempts → Ends s t (λ a. false) → AreHolders s rows → AreHolders t rows
-rows_stay s t rows rise ends are =
+-- no lease ends, and no other begins
+pub rows_stay : (s t : State) (rows : List Holder) → Rising (λ a. a.id) 0 s.attempts
+    → ((a : Attempt) → Has a s.attempts → is_live a ≡ true → IsLike t a) → ((b : Attempt) → Has b t.attempts → is_live b ≡ true → IsLike s b)
+    → ((a : Attempt) → Has a s.attempts → is_live a ≡ true → held_by a.id (queued_at t a.job) ≡ held_by a.id (queued_at s a.job)) → AreHolders s rows → AreHolders t rows
+rows_stay s t rows rise stay were held are =
     subst (λ (l : List Attempt). AreHolders t (without_all (flat_map (held_of s) l) rows)) (filter_none (λ a. false) s.attempts (λ a h. refl))
-    (rows_left s t (λ a. false) rise ends rows are)
+    (rows_left s t (λ a. false) rise (record { lives = λ a e. absurd (false≢true e); stay = λ a h l _. stay a h l; were = λ b h l. (were b h l, refl); held = held }) rows are)

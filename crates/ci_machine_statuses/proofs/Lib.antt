@@ -1,6 +1,5 @@
 pub mod Positions
 pub mod Puts
-pub mod ManyPuts
 pub mod RowPuts
 pub mod Facts
 pub mod ActFacts
@@ -9,7 +8,6 @@ pub mod Found
 pub mod Graphs
 pub mod Joint
 pub mod Loaded
-pub mod There
 pub mod Settled
 pub mod Ends
 pub mod ActPlaces

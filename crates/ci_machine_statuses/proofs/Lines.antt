@@ -21,12 +21,7 @@ own_for modes n project pipeline pending (Some group) e =
 pub own_first : (modes : List GroupMode) (n : ℕ) (q : QueuedJob) (its : Status) → q.job.pipeline ≡ n → filter (is_first modes n) (waits_as q its) ≡ []
 own_first modes n q Status.Created e = own_for modes n q.project q.job.pipeline false q.job.options.resource_group e
 own_first modes n q Status.Pending e = own_for modes n q.project q.job.pipeline _ q.job.options.resource_group e
-own_first modes n q Status.Running e = refl
-own_first modes n q Status.Success e = refl
-own_first modes n q Status.Failed e = refl
-own_first modes n q Status.Canceled e = refl
-own_first modes n q Status.Skipped e = refl
-own_first modes n q Status.Manual e = refl
+own_first modes n q _ e = refl
 
 -- the same ones pass, where the same of each job do
 pub passing_alike : (test : WaitingJob → Bool) (f g : Job → List WaitingJob) (js : List Job) → ((j : Job) → Has j js → filter test (g j) ≡ filter test (f j)) → filter test (flat_map g js) ≡ filter test (flat_map f js)

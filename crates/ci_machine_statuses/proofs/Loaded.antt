@@ -1,27 +1,25 @@
 -- What is made of the records of a pipeline is what the state has of it.
-use Rattle.std.proofs.Common.{◌≡◌, ℕ, ◌-◌, ◌<◌, ◌≤◌, true, ◌==◌, List, length, map, All, slice_index_or, Result, Ok, Err, IfOk, IfErr, OnOk, nat_cmp, sym, ap, subst, ◌∙◌, arith}
+use Rattle.std.proofs.Common.{◌≡◌, ℕ, ◌-◌, ◌<◌, ◌≤◌, true, ◌==◌, List, length, map, filter, All, slice_index_or, Result, Ok, Err, IfOk, IfErr, OnOk, nat_cmp, sym, ap, subst, ◌∙◌, arith}
 use Rattle.std.proofs.Common.{eqb-true}
 use Rattle.std.specs.List.Sorted.{IsStrictlySortedBy}
 use Rattle.std.proofs.lemmas.Bool.{and_from, le-leb}
 use Rattle.std.proofs.lemmas.List.{get_or-map, length-map}
 use Rattle.ci_machine.specs.Prelude.{is_among, IsAcyclic, JobGraph}
-use Rattle.ci_machine_steps.specs.Prelude.{BoardState, Job, Need, Attempt, BoardRow, State, is_within, pair_of, jobs_of, numbers_of, graph_of, facts_in, facts_of, rows_of, row_for}
+use Rattle.ci_machine_steps.specs.Prelude.{BoardState, attempts_of, Job, Need, Attempt, BoardRow, State, is_within, pair_of, jobs_of, numbers_of, graph_of, facts_in, facts_of, rows_of, row_for}
 use Rattle.ci_machine_steps.specs.Prelude.{row_or_none, AreBoard, IsSound, pairs_among, predecessors_by}
-use Rattle.ci_machine.proofs.Keyed.{Has, Rising, rising_filter, map_has, has_from_all, All-from_has, filter_has, has_filter}
+use Rattle.ci_machine.proofs.Keyed.{Has, Rising, rising_filter, map_has, has_from_all, All-from_has, filter_has, has_filter, has_map}
 use Rattle.ci_machine.proofs.Filters.{filter_implied, find_implied}
 use Rattle.ci_machine_steps.proofs.Sound.{Sound, ascend_from_rising, sound as of_sound}
 use Rattle.ci_machine_statuses.specs.Lookups.{AreRecords, AreJobsWithNeeds, tally_of, facts_by}
 use Rattle.ci_machine_statuses.specs.Boards.{IsBoardOf, IsGraphOf, IsItsGraph, FitTogether}
 use Rattle.ci_machine_statuses.specs.declared.fault.StatusFault.{StatusFault}
 use Rattle.ci_machine_statuses.specs.declared.fault.StatusFault.TheVariants.{Broken}
-use Rattle.ci_machine_statuses.proofs.Puts.{map_same}
-use Rattle.ci_machine_statuses.proofs.Positions.{ascending, has_among}
+use Rattle.ci_machine_statuses.proofs.Puts.{job_of, number, map_same}
+use Rattle.ci_machine_statuses.proofs.Positions.{among_has, ascending, has_among}
 use Rattle.ci_machine_statuses.proofs.RowPuts.{map_rises}
-use Rattle.ci_machine_statuses.proofs.Tallies.{tally_from}
-use Rattle.ci_machine_statuses.proofs.Joint.{board_rises}
-
-abbrev number : Job → ℕ
-number j = j.id
+use Rattle.ci_machine_statuses.proofs.Joint.{number_there, board_rises}
+use Rattle.ci_machine_statuses.proofs.Facts.{facts_with, in_pipeline}
+use Rattle.ci_machine_statuses.proofs.ActRecords.{all_attempts}
 
 module _ (s : State) (p : ℕ) (jobs : List Job) (needs : List Need) (sound : Sound s) (are : AreJobsWithNeeds s p jobs needs) where
   all_rise : Rising (λ j. j.id) 0 jobs
@@ -108,47 +106,25 @@ module _ (s : State) (kept : List BoardRow) (p : ℕ) (jobs : List Job) (needs :
       ascend_from_rising (λ (r : BoardRow). r.job) 0 rows
       (subst (Rising (λ r. r.job) 0) (sym records.are_rows) (rising_filter (λ (r : BoardRow). r.job) (λ r. is_within records.first records.last r.job) 0 kept (board_rises s kept sound are)))
 
-  in_range : (n : ℕ) → Has n (map (λ j. j.id) jobs) → is_within records.first records.last n ≡ true
-  in_range = stands_between s p jobs needs sound its_jobs
-
   pub its_predecessors : predecessors_by (pairs_among (map (λ j. j.id) jobs) needs) (length jobs) ≡ (graph_of s p).predecessors
   its_predecessors = pairs_give s p jobs needs sound its_jobs
 
-  one_facts : (j : Job) → Has j jobs → facts_by (tally_of attempts j.id) j ≡ facts_in s j
-  one_facts j h =
-      ap (λ (l : List Attempt). facts_by (tally_of l j.id) j) records.are_attempts
-      ∙ ap (λ (l : List Attempt). facts_by (tally_from l) j)
-      (filter_implied (λ (a : Attempt). a.job == j.id) (λ a. is_within records.first records.last a.job) s.attempts
-      (λ a k e. subst (λ m. is_within records.first records.last m ≡ true) (sym (eqb-true a.job j.id e)) (has_from_all (λ (i : Job). is_within records.first records.last i.id ≡ true) j jobs records.inside h)))
+  its_attempts : (j : Job) → Has j jobs → filter (λ a. a.job == j.id) attempts ≡ attempts_of s j.id
+  its_attempts = all_attempts s kept p jobs needs attempts rows records
 
   pub all_facts : map (λ j. facts_by (tally_of attempts j.id) j) jobs ≡ facts_of s p
-  all_facts = map_same (λ j. facts_by (tally_of attempts j.id) j) (facts_in s) jobs one_facts ∙ ap (map (facts_in s)) records.are_jobs
+  all_facts = map_same (λ j. facts_by (tally_of attempts j.id) j) (facts_in s) jobs (λ j h. ap (λ (l : List Attempt). facts_with l j) (its_attempts j h)) ∙ ap (map (facts_in s)) records.are_jobs
 
   one_row : (n : ℕ) → Has n (map (λ j. j.id) jobs) → row_for rows n ≡ row_for kept n
   one_row n h =
       ap (λ (l : List BoardRow). row_for l n) records.are_rows
       ∙ ap row_or_none (find_implied (λ (r : BoardRow). r.job == n) (λ r. is_within records.first records.last r.job) kept
-      (λ r m e. subst (λ m. is_within records.first records.last m ≡ true) (sym (eqb-true r.job n e)) (in_range n h)))
+      (λ r m e. subst (λ m. is_within records.first records.last m ≡ true) (sym (eqb-true r.job n e)) (stands_between s p jobs needs sound its_jobs n h)))
 
   pub all_rows : map (row_for rows) (map (λ j. j.id) jobs) ≡ rows_of s kept p
   all_rows = map_same (row_for rows) (row_for kept) (map number jobs) one_row ∙ ap (λ (js : List Job). map (row_for kept) (map number js)) records.are_jobs
 
-  -- a board of these parts, predecessors, facts and rows is the pipeline's
-  pub is_board : (numbers : List ℕ) (b : BoardState) → numbers ≡ map (λ j. j.id) jobs → b.graph.parts ≡ map (λ j. j.options.part) jobs
-      → (IsStrictlySortedBy nat_cmp numbers → b.graph.predecessors ≡ predecessors_by (pairs_among numbers needs) (length jobs))
-      → (IsStrictlySortedBy nat_cmp numbers → b.facts ≡ map (λ j. facts_by (tally_of attempts j.id) j) jobs)
-      → (IsStrictlySortedBy nat_cmp (map (λ r. r.job) rows) → b.rows ≡ map (row_for rows) numbers)
-      → IsBoardOf s kept p b
-  is_board numbers b same parts predecessors facts its =
-      let up : IsStrictlySortedBy nat_cmp numbers = subst (IsStrictlySortedBy nat_cmp) (sym same) numbers_ascend in
-      record {
-        parts = parts ∙ ap (map (λ (j : Job). j.options.part)) records.are_jobs;
-        predecessors = predecessors up ∙ (ap (λ (ns : List ℕ). predecessors_by (pairs_among ns needs) (length jobs)) same ∙ its_predecessors);
-        its_facts = facts up ∙ all_facts;
-        its_rows = its rows_ascend ∙ (ap (map (row_for rows)) same ∙ all_rows);
-      }
-
-  -- and so is a board of the graph of these jobs and needs, and of the pipeline's facts and rows
+  -- a board of the graph of these jobs and needs, and of the pipeline's facts and rows, is the pipeline's
   pub is_board_with : (b : BoardState) → IsGraphOf b.graph jobs needs → b.facts ≡ facts_of s p → b.rows ≡ rows_of s kept p → IsBoardOf s kept p b
   is_board_with b of facts its = record {
     parts = of.parts ∙ ap (map (λ (j : Job). j.options.part)) records.are_jobs;
@@ -156,6 +132,34 @@ module _ (s : State) (kept : List BoardRow) (p : ℕ) (jobs : List Job) (needs :
     its_facts = facts;
     its_rows = its;
   }
+
+  -- and so is a board of what is looked up
+  pub is_board : (numbers : List ℕ) (b : BoardState) → numbers ≡ map (λ j. j.id) jobs → b.graph.parts ≡ map (λ j. j.options.part) jobs
+      → (IsStrictlySortedBy nat_cmp numbers → b.graph.predecessors ≡ predecessors_by (pairs_among numbers needs) (length jobs))
+      → (IsStrictlySortedBy nat_cmp numbers → b.facts ≡ map (λ j. facts_by (tally_of attempts j.id) j) jobs)
+      → (IsStrictlySortedBy nat_cmp (map (λ r. r.job) rows) → b.rows ≡ map (row_for rows) numbers)
+      → IsBoardOf s kept p b
+  is_board numbers b same parts predecessors facts its =
+      let up : IsStrictlySortedBy nat_cmp numbers = subst (IsStrictlySortedBy nat_cmp) (sym same) numbers_ascend in
+      is_board_with b (record { parts = parts; predecessors = λ _. predecessors up ∙ ap (λ (ns : List ℕ). predecessors_by (pairs_among ns needs) (length jobs)) same })
+      (facts up ∙ all_facts) (its rows_ascend ∙ (ap (map (row_for rows)) same ∙ all_rows))
+
+  -- ---- what is looked up is there
+
+  -- no more attempts of a job are set aside than are there
+  pub attempts_are_there : All (λ j. j.set_aside ≤ (tally_of attempts j.id).count) jobs
+  attempts_are_there =
+      All-from_has (λ (j : Job). j.set_aside ≤ (tally_of attempts j.id).count) jobs
+      (λ j h. subst (λ n. j.set_aside ≤ n) (sym (ap length (its_attempts j h))) (sound.aside j (in_pipeline s p j (subst (Has j) records.are_jobs h)).0))
+
+  -- each job has its row
+  pub rows_are_there : All (λ n. is_among (map (λ r. r.job) rows) n ≡ true) (map (λ j. j.id) jobs)
+  rows_are_there =
+      All-from_has (λ n. is_among (map job_of rows) n ≡ true) (map number jobs)
+      (λ n h. let r = map_has job_of n kept (subst (Has n) (sym are.keys) (number_there s p n (subst (λ (js : List Job). Has n (map number js)) records.are_jobs h))) in
+      let within = subst (λ m. is_within records.first records.last m ≡ true) (sym r.1.1) (stands_between s p jobs needs sound its_jobs n h) in
+      among_has n (map job_of rows) (subst (λ m. Has m (map job_of rows)) r.1.1
+      (has_map job_of r.0 rows (subst (Has r.0) (sym records.are_rows) (filter_has (λ (x : BoardRow). is_within records.first records.last x.job) r.0 kept r.1.0 within)))))
 
 -- ---- the range of a pipeline's jobs
 

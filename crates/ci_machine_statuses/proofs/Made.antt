@@ -1,28 +1,22 @@
 -- A pipeline is made: its rows come behind all others.
-use Rattle.std.proofs.Common.{◌≡◌, ℕ, ◌+◌, ◌-◌, ◌<◌, ◌≤◌, false, ◌==◌, List, [], ◌∷◌, ◌++◌, length, map, filter, replicate, Contains, None, refl, sym, ap, subst, ◌∙◌, inl, inr}
-use Rattle.std.proofs.Common.{⊎_elim, arith, eqb-true, eq-eqb, ne_eqb}
-use Rattle.std.proofs.lemmas.Bool.{cond_both, eqb-false, cases_Bool}
+use Rattle.std.proofs.Common.{◌≡◌, ℕ, ◌+◌, ◌-◌, ◌<◌, ◌≤◌, Bool, false, ◌==◌, List, [], ◌∷◌, ◌++◌, length, map, filter, replicate, Contains, None, refl, sym, ap, subst, ◌∙◌, inl, inr}
+use Rattle.std.proofs.Common.{arith, eq-eqb, ne_eqb}
 use Rattle.std.proofs.lemmas.List.{append-nil, map-append}
 use Rattle.std.proofs.lemmas.List.Elements.{filter-append}
-use Rattle.ci_machine.specs.Prelude.{is_among, JobGraph}
-use Rattle.ci_machine_steps.specs.Prelude.{Facts, Row, AreRows, BoardState, no_facts, Job, Need, Attempt, BoardRow, State, put, row_cmp, put_rows, pair_of, jobs_of, numbers_of}
+use Rattle.ci_machine.specs.Prelude.{is_among}
+use Rattle.ci_machine_steps.specs.Prelude.{Facts, AreRows, BoardState, no_facts, Job, Need, Attempt, BoardRow, State, put_rows, pair_of, jobs_of, numbers_of}
 use Rattle.ci_machine_steps.specs.Prelude.{pairs_of, graph_of, attempts_of, facts_in, facts_of, rows_of, row_for, AreBoard, pairs_among, predecessors_by}
 use Rattle.ci_board.proofs.Assignments.{same_graph}
-use Rattle.ci_machine.proofs.Keyed.{Has, Rising, rising_from, filter_none, map_has, has_map, has_from_all, named_contains}
+use Rattle.ci_machine.proofs.Keyed.{Has, Named, Rising, rising_from, filter_none, map_has, has_map, has_from_all, named_contains}
 use Rattle.ci_machine.proofs.Filters.{filter_all}
+use Rattle.ci_machine_steps.proofs.Behind.{has_right}
 use Rattle.ci_machine_steps.proofs.Sound.{Sound, rising_from_ascend}
 use Rattle.ci_machine_statuses.specs.Changes.{IsMade}
-use Rattle.ci_machine_statuses.proofs.Puts.{cons_same, map_same, row_other}
-use Rattle.ci_machine_statuses.proofs.RowPuts.{rises_like, puts_behind, its_row}
-use Rattle.ci_machine_statuses.proofs.Positions.{has_among}
+use Rattle.ci_machine_statuses.proofs.Puts.{number, job_of, cons_same, map_same, map_twice}
+use Rattle.ci_machine_statuses.proofs.RowPuts.{rises_like, others_stay, puts_behind, its_row}
+use Rattle.ci_machine_statuses.proofs.Positions.{not_among}
 use Rattle.ci_machine_statuses.proofs.Facts.{facts_with}
-use Rattle.ci_machine_statuses.proofs.Joint.{board_rises, number_there}
-
-abbrev number : Job → ℕ
-number j = j.id
-
-abbrev job_of : BoardRow → ℕ
-job_of r = r.job
+use Rattle.ci_machine_statuses.proofs.Joint.{board_rises, number_there, rows_same, IsUnmoved, right_again}
 
 -- numbers from low on rise from there
 rises_from : {A : Type 0} (id : A → ℕ) (low : ℕ) (xs : List A) → Rising id 0 xs → ((x : A) → Has x xs → low ≤ id x) → Rising id low xs
@@ -34,16 +28,9 @@ rising_append id low mid [] [] r h l q = tt
 rising_append id low mid [] (y ∷ ys) r h l q = (omega (arith, q.0), q.1)
 rising_append id low mid (x ∷ xs) ys r h l q = (r.0, rising_append id (id x + 1) mid xs ys r.1 (λ y k. h y (inr k)) (let m : id x < mid = h x (inl refl) in omega arith) q)
 
-has_right : {A : Type 0} (x : A) (xs ys : List A) → Has x ys → Has x (xs ++ ys)
-has_right x [] ys h = h
-has_right x (z ∷ zs) ys h = inr (has_right x zs ys h)
-
-not_among : (numbers : List ℕ) (n : ℕ) → ((m : ℕ) → Has m numbers → m ≡ n → ⊥) → is_among numbers n ≡ false
-not_among numbers n d = ⊎_elim (λ e. absurd (d n (has_among n numbers e) refl)) (λ e. e) (cases_Bool (is_among numbers n))
-
-others_stay : (rows board : List BoardRow) (n : ℕ) → ((r : BoardRow) → Has r rows → n ≡ r.job → ⊥) → row_for (put_rows rows board) n ≡ row_for board n
-others_stay [] board n d = refl
-others_stay (r ∷ rows) board n d = others_stay rows (put row_cmp r board) n (λ x h. d x (inr h)) ∙ row_other r n board (d r (inl refl))
+-- none of the later ones passes
+none_more : {A : Type 0} (p : A → Bool) (xs ys : List A) → ((y : A) → Has y ys → p y ≡ false) → filter p (xs ++ ys) ≡ filter p xs
+none_more p xs ys h = filter-append p xs ys ∙ (ap (λ l. filter p xs ++ l) (filter_none p ys h) ∙ append-nil (filter p xs))
 
 all_none : (jobs : List Job) (f : Job → Facts) → ((j : Job) → Has j jobs → f j ≡ no_facts) → map f jobs ≡ replicate (length jobs) no_facts
 all_none [] f h = refl
@@ -54,17 +41,8 @@ module _ (s t : State) (board : List BoardRow) (p : ℕ) (jobs : List Job) (need
   jobs_rise = rises_from number s.next.job jobs (rising_from_ascend number jobs made.ascend) (λ j h. has_from_all (λ (i : Job). s.next.job ≤ i.id) j jobs made.behind h)
 
   -- numbers that are there are before those that are made
-  old_job : (n : ℕ) → Has n (map (λ j. j.id) s.jobs) → n < s.next.job
-  old_job n h = let w = map_has number n s.jobs h in subst (λ m. m < s.next.job) w.1.1 (sound.job_below w.0 w.1.0)
-
-  old_attempt : (a : Attempt) → Has a s.attempts → a.job < s.next.job
-  old_attempt a h = let w = sound.attempt_job a h in subst (λ m. m < s.next.job) w.1.1 (sound.job_below w.0 w.1.0)
-
-  old_need : (w : Need) → Has w s.needs → w.job < s.next.job
-  old_need w h = let v = sound.need_job w h in subst (λ m. m < s.next.job) v.1.1 (sound.job_below v.0 v.1.0)
-
-  new_job : (n : ℕ) → Has n (map (λ j. j.id) jobs) → s.next.job ≤ n
-  new_job n h = let w = map_has number n jobs h in subst (λ m. s.next.job ≤ m) w.1.1 (rising_from number w.0 s.next.job jobs jobs_rise w.1.0)
+  old_job : (n : ℕ) → Named number n s.jobs → n < s.next.job
+  old_job n w = subst (λ m. m < s.next.job) w.1.1 (sound.job_below w.0 w.1.0)
 
   -- ---- the new pipeline
 
@@ -83,14 +61,15 @@ module _ (s t : State) (board : List BoardRow) (p : ℕ) (jobs : List Job) (need
       ∙ (filter-append (λ (w : Need). is_among (map number jobs) w.job) s.needs needs
       ∙ ap (λ l. l ++ filter (λ (w : Need). is_among (map number jobs) w.job) needs)
       (filter_none (λ (w : Need). is_among (map number jobs) w.job) s.needs
-      (λ w h. not_among (map number jobs) w.job (λ m k e. let x : s.next.job ≤ m = new_job m k in let y : w.job < s.next.job = old_need w h in omega arith)))))
+      (λ w h. not_among w.job (map number jobs)
+      (λ m k e. let v = map_has number m jobs k in let z : v.0.id ≡ m = v.1.1 in omega (arith, rising_from number v.0 s.next.job jobs jobs_rise v.1.0, old_job w.job (sound.need_job w h)))))))
 
   untried : (j : Job) → Has j jobs → facts_in t j ≡ no_facts
   untried j h =
       let none : attempts_of t j.id ≡ []
       = ap (filter (λ (a : Attempt). a.job == j.id)) made.same_attempts
       ∙ filter_none (λ (a : Attempt). a.job == j.id) s.attempts
-      (λ a k. ne_eqb a.job j.id (λ e. let x : s.next.job ≤ j.id = rising_from number j s.next.job jobs jobs_rise h in let y : a.job < s.next.job = old_attempt a k in omega arith)) in
+      (λ a k. ne_eqb a.job j.id (λ e. absurd (omega (arith, rising_from number j s.next.job jobs jobs_rise h, old_job a.job (sound.attempt_job a k))))) in
       let flags = has_from_all (λ (i : Job). (i.cancelled ≡ false) × (i.played ≡ false)) j jobs made.idle h in
       ap (λ (l : List Attempt). facts_with l j) none ∙ (λ i. record { last = None; attempts = (let z : 0 - j.set_aside ≡ 0 = omega arith in z) i; cancelled = flags.0 i; played = flags.1 i })
 
@@ -105,7 +84,7 @@ module _ (s t : State) (board : List BoardRow) (p : ℕ) (jobs : List Job) (need
     rows_rise = rises_like job_of number s.next.job rows jobs keys jobs_rise
 
     old_row : (r : BoardRow) → Has r board → r.job < s.next.job
-    old_row r h = old_job r.job (subst (Has r.job) are.keys (has_map job_of r board h))
+    old_row r h = old_job r.job (map_has number r.job s.jobs (subst (Has r.job) are.keys (has_map job_of r board h)))
 
     appended : after ≡ board ++ rows
     appended = puts_behind s.next.job rows board rows_rise old_row
@@ -120,77 +99,51 @@ module _ (s t : State) (board : List BoardRow) (p : ℕ) (jobs : List Job) (need
         ∙ ((λ i. are.keys i ++ keys i)
         ∙ (sym (map-append number s.jobs jobs) ∙ ap (map number) (sym made.all_jobs))))
 
-    found : (l : List BoardRow) → ((r : BoardRow) → Has r l → Has r rows) → map (row_for after) (map (λ r. r.job) l) ≡ map (λ r. r.row) l
-    found [] h = refl
-    found (r ∷ l) h = cons_same (its_row 0 after r after_rises (subst (Has r) (sym appended) (has_right r board rows (h r (inl refl))))) (found l (λ x k. h x (inr k)))
-
     pub its_rows : rows_of t after p ≡ map (λ r. r.row) rows
-    its_rows = ap (λ (js : List Job). map (row_for after) (map number js)) its_jobs ∙ (ap (map (row_for after)) (sym keys) ∙ found rows (λ r h. h))
+    its_rows =
+        ap (λ (js : List Job). map (row_for after) (map number js)) its_jobs
+        ∙ (ap (map (row_for after)) (sym keys)
+        ∙ (map_twice (row_for after) job_of rows
+        ∙ map_same (λ r. row_for after r.job) (λ r. r.row) rows (λ r h. its_row 0 after r after_rises (subst (Has r) (sym appended) (has_right r board rows h)))))
 
     -- ---- the others
 
+    old_number : (n : ℕ) → Has n (map (λ j. j.id) s.jobs) → row_for after n ≡ row_for board n
+    old_number n h = others_stay rows board n (λ r k e. absurd (omega (arith, rising_from job_of r s.next.job rows rows_rise k, old_job n (map_has number n s.jobs h))))
+
     pub old_rows : (j : Job) → Has j s.jobs → row_for after j.id ≡ row_for board j.id
-    old_rows j h = others_stay rows board j.id (λ r k e. let x : s.next.job ≤ r.job = rising_from job_of r s.next.job rows rows_rise k in let y : j.id < s.next.job = sound.job_below j h in omega arith)
+    old_rows j h = old_number j.id (has_map number j s.jobs h)
 
     module _ (q : ℕ) (d : p ≡ q → ⊥) where
-      pub other_jobs : jobs_of t q ≡ jobs_of s q
+      other_jobs : jobs_of t q ≡ jobs_of s q
       other_jobs =
           ap (filter (λ (j : Job). j.pipeline == q)) made.all_jobs
-          ∙ (filter-append (λ (j : Job). j.pipeline == q) s.jobs jobs
-          ∙ (ap (λ l. jobs_of s q ++ l) (filter_none (λ (j : Job). j.pipeline == q) jobs (λ j h. ne_eqb j.pipeline q (λ e. d (sym (has_from_all (λ (k : Job). k.pipeline ≡ p) j jobs made.within h) ∙ e))))
-          ∙ append-nil (jobs_of s q)))
+          ∙ none_more (λ (j : Job). j.pipeline == q) s.jobs jobs (λ j h. ne_eqb j.pipeline q (λ e. d (sym (has_from_all (λ (k : Job). k.pipeline ≡ p) j jobs made.within h) ∙ e)))
 
       other_pairs : pairs_of t q ≡ pairs_of s q
       other_pairs =
           ap (λ (js : List Job). pairs_among (map number js) t.needs) other_jobs
           ∙ ap (map (pair_of (numbers_of s q)))
           (ap (filter (λ (w : Need). is_among (numbers_of s q) w.job)) made.all_needs
-          ∙ (filter-append (λ (w : Need). is_among (numbers_of s q) w.job) s.needs needs
-          ∙ (ap (λ l. filter (λ (w : Need). is_among (numbers_of s q) w.job) s.needs ++ l)
-          (filter_none (λ (w : Need). is_among (numbers_of s q) w.job) needs
-          (λ w h. not_among (numbers_of s q) w.job (λ m k e.
+          ∙ none_more (λ (w : Need). is_among (numbers_of s q) w.job) s.needs needs
+          (λ w h. not_among w.job (numbers_of s q) (λ m k e.
           let v = named_contains number w.job jobs (has_from_all (λ (z : Need). Contains (map number jobs) z.job) w needs made.among h) in
-          let x : s.next.job ≤ v.0.id = rising_from number v.0 s.next.job jobs jobs_rise v.1.0 in
-          let y : m < s.next.job = old_job m (number_there s q m k) in
-          let z : v.0.id ≡ w.job = v.1.1 in omega arith)))
-          ∙ append-nil (filter (λ (w : Need). is_among (numbers_of s q) w.job) s.needs))))
+          let z : v.0.id ≡ w.job = v.1.1 in omega (arith, rising_from number v.0 s.next.job jobs jobs_rise v.1.0, old_job m (map_has number m s.jobs (number_there s q m k))))))
 
-      other_graph : graph_of t q ≡ graph_of s q
-      other_graph = λ i. record { parts = map (λ (j : Job). j.options.part) (other_jobs i); predecessors = predecessors_by (other_pairs i) (length (other_jobs i)); successors = []; order = []; meter = 0 }
-
-      pub other_facts : facts_of t q ≡ facts_of s q
-      other_facts =
-          ap (map (facts_in t)) other_jobs
-          ∙ map_same (facts_in t) (facts_in s) (jobs_of s q) (λ j h. ap (λ (l : List Attempt). facts_with (filter (λ (a : Attempt). a.job == j.id) l) j) made.same_attempts)
-
-      pub other_rows : rows_of t after q ≡ rows_of s board q
-      other_rows =
-          ap (λ (js : List Job). map (row_for after) (map number js)) other_jobs
-          ∙ map_same (row_for after) (row_for board) (numbers_of s q)
-          (λ n h. others_stay rows board n (λ r k e. let x : s.next.job ≤ r.job = rising_from job_of r s.next.job rows rows_rise k in let y : n < s.next.job = old_job n (number_there s q n h) in omega arith))
-
-      there : AreRows (graph_of t q) (facts_of t q) (rows_of t after q)
-      there =
-          subst (λ (g : JobGraph). AreRows g (facts_of t q) (rows_of t after q)) (sym other_graph)
-          (subst (λ (f : List Facts). AreRows (graph_of s q) f (rows_of t after q)) (sym other_facts)
-          (subst (λ (r : List Row). AreRows (graph_of s q) (facts_of s q) r) (sym other_rows) (are.each q)))
+      pub unmoved : IsUnmoved s t board after q
+      unmoved = record {
+        graph = λ i. record { parts = map (λ j. j.options.part) (other_jobs i); predecessors = predecessors_by (other_pairs i) (length (other_jobs i)); successors = []; order = []; meter = 0 };
+        facts = ap (map (facts_in t)) other_jobs
+            ∙ map_same (facts_in t) (facts_in s) (jobs_of s q) (λ j h. ap (λ (l : List Attempt). facts_with (filter (λ a. a.job == j.id) l) j) made.same_attempts);
+        rows = ap (λ (js : List Job). map (row_for after) (map number js)) other_jobs ∙ map_same (row_for after) (row_for board) (numbers_of s q) (λ n h. old_number n (number_there s q n h));
+      }
 
     module _ (b : BoardState) (its : map (λ r. r.row) rows ≡ b.rows) (parts : b.graph.parts ≡ map (λ j. j.options.part) jobs)
         (predecessors : b.graph.predecessors ≡ predecessors_by (pairs_among (map (λ j. j.id) jobs) needs) (length jobs)) (facts : b.facts ≡ replicate (length jobs) no_facts)
         (right : AreRows b.graph b.facts b.rows) where
-      here : AreRows (graph_of t p) (facts_of t p) (rows_of t after p)
-      here =
-          subst (λ (f : List Facts). AreRows (graph_of t p) f (rows_of t after p)) (facts ∙ sym its_facts)
-          (subst (λ (r : List Row). AreRows (graph_of t p) b.facts r) (sym (its_rows ∙ its))
-          (same_graph b.graph (graph_of t p)
-          (ap (map (λ (j : Job). j.options.part)) its_jobs ∙ sym parts)
-          ((λ i. predecessors_by (its_pairs i) (length (its_jobs i))) ∙ sym predecessors)
-          b.facts b.rows right))
-
       pub new_board : AreBoard t after
-      new_board = record {
-        keys = all_keys;
-        each = λ q. cond_both (p == q) 0 0 (λ (_ : ℕ). AreRows (graph_of t q) (facts_of t q) (rows_of t after q))
-            (λ e. subst (λ x. AreRows (graph_of t x) (facts_of t x) (rows_of t after x)) (eqb-true p q e) here)
-            (λ e. there q (eqb-false p q e));
-      }
+      new_board =
+          right_again s t board after p are all_keys
+          (rows_same refl (its_facts ∙ sym facts) (its_rows ∙ its)
+          (same_graph b.graph (graph_of t p) (ap (map (λ (j : Job). j.options.part)) its_jobs ∙ sym parts) ((λ i. predecessors_by (its_pairs i) (length (its_jobs i))) ∙ sym predecessors) b.facts b.rows right))
+          unmoved

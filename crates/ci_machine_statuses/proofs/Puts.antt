@@ -1,9 +1,25 @@
 -- What a put makes of a list of records in the order of their numbers.
-use Rattle.std.proofs.Common.{◌≡◌, ℕ, ◌+◌, ◌<◌, ◌≤◌, false, cond, not, ◌==◌, List, [], ◌∷◌, ◌++◌, map, find, if◌then◌else◌, Some, None, refl, sym, ap, ◌∙◌, inl, inr, ⊎_elim, arith}
-use Rattle.std.proofs.Common.{eq-eqb, ne_eqb, nat_cmp, is_eq, is_lt, Ordering}
-use Rattle.std.proofs.lemmas.Bool.{cond_both, cond-true, cond-false, cases_Bool, false≢true}
-use Rattle.ci_machine_steps.specs.Prelude.{BoardRow, placed, others, put, row_cmp, row_for, row_or_none}
-use Rattle.ci_machine.proofs.Keyed.{Has, Rising, rising_from, same, different, unequal, equal, less, not_less, has_filter}
+use Rattle.std.proofs.Common.{◌≡◌, ℕ, ◌+◌, ◌<◌, ◌≤◌, Bool, true, false, cond, not, ◌==◌, List, [], ◌∷◌, ◌++◌, map, filter, find, if◌then◌else◌, Some, None, refl, sym, ap, subst, ◌∙◌, inl, inr}
+use Rattle.std.proofs.Common.{⊎_elim, arith, eq-eqb, eqb-true, ne_eqb, nat_cmp, is_eq, is_lt, Ordering}
+use Rattle.std.proofs.lemmas.Bool.{cond_both, cond-true, cond-false}
+use Rattle.std.proofs.lemmas.List.{append-nil, map-id}
+use Rattle.std.proofs.lemmas.List.Elements.{filter-append}
+use Rattle.ci_machine_steps.specs.Prelude.{Job, Attempt, BoardRow, placed, others, put, row_cmp, row_for, row_or_none}
+use Rattle.ci_machine.proofs.Keyed.{Has, Rising, rising_from, different, unequal, equal, less, has_filter, map_has, filter_same}
+use Rattle.ci_machine.proofs.Filters.{filter_all, find_implied}
+use Rattle.ci_machine_steps.proofs.Behind.{put_all, put_behind, nat_less}
+
+-- by which numbers records stand
+abbrev pub number : Job → ℕ
+number j = j.id
+
+abbrev pub attempt_id : Attempt → ℕ
+attempt_id a = a.id
+
+abbrev pub job_of : BoardRow → ℕ
+job_of r = r.job
+
+-- ---- lists
 
 pub cons_same : {A : Type 0} {x y : A} {xs ys : List A} → x ≡ y → xs ≡ ys → x ∷ xs ≡ y ∷ ys
 cons_same e h = λ i. (e i) ∷ (h i)
@@ -12,80 +28,116 @@ pub map_same : {A B : Type 0} (f g : A → B) (xs : List A) → ((x : A) → Has
 map_same f g [] h = refl
 map_same f g (x ∷ xs) h = cons_same (h x (inl refl)) (map_same f g xs (λ y k. h y (inr k)))
 
-pub map_id : {A : Type 0} (xs : List A) → map (λ x. x) xs ≡ xs
-map_id [] = refl
-map_id (x ∷ xs) = ap (λ l. x ∷ l) (map_id xs)
+pub map_twice : {A B C : Type 0} (g : B → C) (h : A → B) (xs : List A) → map g (map h xs) ≡ map (λ x. g (h x)) xs
+map_twice g h [] = refl
+map_twice g h (x ∷ xs) = cons_same refl (map_twice g h xs)
+
+-- one more at the end of a list passes, or doesn't
+pub more_in : {A : Type 0} (p : A → Bool) (xs : List A) (x : A) → p x ≡ true → filter p (xs ++ x ∷ []) ≡ filter p xs ++ x ∷ []
+more_in p xs x e = filter-append p xs (x ∷ []) ∙ ap (λ l. filter p xs ++ l) (cond-true (p x) (x ∷ []) [] e)
+
+pub more_out : {A : Type 0} (p : A → Bool) (xs : List A) (x : A) → p x ≡ false → filter p (xs ++ x ∷ []) ≡ filter p xs
+more_out p xs x e = filter-append p xs (x ∷ []) ∙ (ap (λ l. filter p xs ++ l) (cond-false (p x) (x ∷ []) [] e) ∙ append-nil (filter p xs))
+
+-- what passes by what it is mapped to
+pub map_filter : {A B : Type 0} (f : A → B) (p : B → Bool) (xs : List A) → map f (filter (λ x. p (f x)) xs) ≡ filter p (map f xs)
+map_filter f p [] = refl
+map_filter f p (x ∷ xs) =
+    cond_both (p (f x)) (x ∷ filter (λ y. p (f y)) xs) (filter (λ y. p (f y)) xs) (λ l. map f l ≡ filter p (f x ∷ map f xs))
+    (λ e. cons_same refl (map_filter f p xs) ∙ sym (cond-true (p (f x)) (f x ∷ filter p (map f xs)) (filter p (map f xs)) e))
+    (λ e. map_filter f p xs ∙ sym (cond-false (p (f x)) (f x ∷ filter p (map f xs)) (filter p (map f xs)) e))
+
+-- a change that a test doesn't see leaves what passes it
+pub filter-map : {A : Type 0} (p : A → Bool) (f : A → A) (xs : List A) → ((x : A) → Has x xs → p (f x) ≡ p x) → filter p (map f xs) ≡ map f (filter p xs)
+filter-map p f xs h = sym (map_filter f p xs) ∙ ap (map f) (filter_same (λ x. p (f x)) p xs h)
+
+-- ---- puts
 
 -- x in place of the record with its number
 abbrev pub swap : {A : Type 0} → (A → ℕ) → A → A → A
 swap id x y = if id y == id x then x else y
 
--- where no record has x's number, the others are all
-others_all : {A : Type 0} (id : A → ℕ) (x : A) (xs : List A) → ((y : A) → Has y xs → id y ≡ id x → ⊥) → others (λ a b. nat_cmp (id a) (id b)) x xs ≡ xs
-others_all id x [] d = refl
-others_all id x (z ∷ zs) d =
-    cond-true (not (is_eq (nat_cmp (id z) (id x)))) (z ∷ others (λ a b. nat_cmp (id a) (id b)) x zs) (others (λ a b. nat_cmp (id a) (id b)) x zs) (unequal (id z) (id x) (λ e. d z (inl refl) e))
-    ∙ ap (λ l. z ∷ l) (others_all id x zs (λ y h e. d y (inr h) e))
+-- f of the records that pass a test
+abbrev pub change_where : {A : Type 0} → (A → Bool) → (A → A) → A → A
+change_where test f y = if test y then f y else y
 
--- before records of greater numbers it is the first
-placed_first : {A : Type 0} (id : A → ℕ) (x : A) (low : ℕ) (xs : List A) → id x < low → Rising id low xs → placed (λ a b. nat_cmp (id a) (id b)) x xs ≡ x ∷ xs
-placed_first id x low [] l r = refl
-placed_first id x low (z ∷ zs) l r =
-    cond_both (is_lt (nat_cmp (id z) (id x))) (z ∷ placed (λ a b. nat_cmp (id a) (id b)) x zs) (x ∷ z ∷ zs) (λ k. k ≡ x ∷ z ∷ zs)
-    (λ e. absurd (let m : id z < id x = less (id z) (id x) e in omega (arith, r.0)))
-    (λ e. refl)
+module _ {A : Type 0} (id : A → ℕ) where
+  abbrev cmp : A → A → Ordering
+  cmp a b = nat_cmp (id a) (id b)
 
-swap_none : {A : Type 0} (id : A → ℕ) (x : A) (low : ℕ) (xs : List A) → id x < low → Rising id low xs → map (swap id x) xs ≡ xs
-swap_none id x low [] l r = refl
-swap_none id x low (z ∷ zs) l r =
-    cons_same (cond-false (id z == id x) x z (ne_eqb (id z) (id x) (λ e. absurd (omega (arith, r.0))))) (swap_none id x (id z + 1) zs (omega (arith, r.0)) r.1)
+  -- before records of greater numbers it is the first
+  placed_first : (x : A) (low : ℕ) (xs : List A) → id x < low → Rising id low xs → placed cmp x xs ≡ x ∷ xs
+  placed_first x low [] l r = refl
+  placed_first x low (z ∷ zs) l r =
+      cond_both (is_lt (nat_cmp (id z) (id x))) (z ∷ placed cmp x zs) (x ∷ z ∷ zs) (λ k. k ≡ x ∷ z ∷ zs)
+      (λ e. absurd (let m : id z < id x = less (id z) (id x) e in omega (arith, r.0))) (λ e. refl)
 
--- a record put in place of one of its number stands where that one stood
-pub put_replace : {A : Type 0} (id : A → ℕ) (a x : A) (low : ℕ) (xs : List A) → Rising id low xs → Has a xs → id a ≡ id x
-    → put (λ a b. nat_cmp (id a) (id b)) x xs ≡ map (swap id x) xs
-put_replace {A} id a x low [] r h e = absurd h
-put_replace {A} id a x low (z ∷ zs) r h e =
-    let cmp : A → A → Ordering = λ v w. nat_cmp (id v) (id w) in
-    ⊎_elim
-    (λ is. let at : id z ≡ id x = ap id (sym is) ∙ e in
-    ap (λ l. placed cmp x l)
-    (cond-false (not (is_eq (nat_cmp (id z) (id x)))) (z ∷ others cmp x zs) (others cmp x zs) (ap not (equal (id z) (id x) at))
-    ∙ others_all id x zs (λ y k q. absurd (let m : id z + 1 ≤ id y = rising_from id y (id z + 1) zs r.1 k in omega arith)))
-    ∙ (placed_first id x (id z + 1) zs (omega arith) r.1
-    ∙ sym (cons_same (cond-true (id z == id x) x z (eq-eqb (id z) (id x) at)) (swap_none id x (id z + 1) zs (omega arith) r.1))))
-    (λ m. let after : id z + 1 ≤ id a = rising_from id a (id z + 1) zs r.1 m in
-    let d : id z ≡ id x → ⊥ = λ q. omega arith in
-    ap (λ l. placed cmp x l)
-    (cond-true (not (is_eq (nat_cmp (id z) (id x)))) (z ∷ others cmp x zs) (others cmp x zs) (unequal (id z) (id x) d))
-    ∙ (cond_both (is_lt (nat_cmp (id z) (id x))) (z ∷ placed cmp x (others cmp x zs)) (x ∷ z ∷ others cmp x zs) (λ l. l ≡ z ∷ put cmp x zs)
-    (λ q. refl) (λ q. absurd (let g : id x ≤ id z = not_less (id z) (id x) q in omega arith))
-    ∙ cons_same (sym (cond-false (id z == id x) x z (ne_eqb (id z) (id x) d))) (put_replace id a x (id z + 1) zs r.1 m e)))
-    h
+  pub put_first : (x : A) (low : ℕ) (xs : List A) → id x < low → Rising id low xs → put (λ a b. nat_cmp (id a) (id b)) x xs ≡ x ∷ xs
+  put_first x low xs l r =
+      ap (placed cmp x) (filter_all (λ y. not (is_eq (nat_cmp (id y) (id x)))) xs (λ y h. unequal (id y) (id x) (λ e. absurd (omega (arith, rising_from id y low xs r h)))))
+      ∙ placed_first x low xs l r
 
--- a record put whose number is greater than all stands last
-pub put_last : {A : Type 0} (id : A → ℕ) (x : A) (xs : List A) → ((y : A) → Has y xs → id y < id x) → put (λ a b. nat_cmp (id a) (id b)) x xs ≡ xs ++ x ∷ []
-put_last {A} id x xs all =
-    ap (λ l. placed (λ a b. nat_cmp (id a) (id b)) x l) (others_all id x xs (λ y h e. absurd (let m : id y < id x = all y h in omega arith))) ∙ at_end xs all
-  where
-    at_end : (ys : List A) → ((y : A) → Has y ys → id y < id x) → placed (λ a b. nat_cmp (id a) (id b)) x ys ≡ ys ++ x ∷ []
-    at_end [] h = refl
-    at_end (z ∷ zs) h =
-        cond_both (is_lt (nat_cmp (id z) (id x))) (z ∷ placed (λ a b. nat_cmp (id a) (id b)) x zs) (x ∷ z ∷ zs) (λ k. k ≡ (z ∷ zs) ++ x ∷ [])
-        (λ q. ap (λ l. z ∷ l) (at_end zs (λ y k. h y (inr k))))
-        (λ q. absurd (let g : id x ≤ id z = not_less (id z) (id x) q in let m : id z < id x = h z (inl refl) in omega arith))
+  -- it takes the place of a first of its number
+  pub put_over : (x z : A) (zs : List A) → id z ≡ id x → Rising id (id z + 1) zs → put (λ a b. nat_cmp (id a) (id b)) x (z ∷ zs) ≡ x ∷ zs
+  put_over x z zs e r =
+      ap (placed cmp x) (cond-false (not (is_eq (nat_cmp (id z) (id x)))) (z ∷ others cmp x zs) (others cmp x zs) (ap not (equal (id z) (id x) e)))
+      ∙ put_first x (id z + 1) zs (omega arith) r
+
+  -- and stands behind a first of a lesser one
+  pub put_after : (x z : A) (zs : List A) → id z < id x → put (λ a b. nat_cmp (id a) (id b)) x (z ∷ zs) ≡ z ∷ put (λ a b. nat_cmp (id a) (id b)) x zs
+  put_after x z zs l =
+      ap (placed cmp x) (cond-true (not (is_eq (nat_cmp (id z) (id x)))) (z ∷ others cmp x zs) (others cmp x zs) (unequal (id z) (id x) (λ e. absurd (omega arith))))
+      ∙ cond-true (is_lt (nat_cmp (id z) (id x))) (z ∷ put cmp x zs) (x ∷ z ∷ others cmp x zs) (ap is_lt (nat_less (id z) (id x) l))
+
+  -- a record put in place of one of its number stands where that one stood
+  pub put_replace : (a x : A) (low : ℕ) (xs : List A) → Rising id low xs → Has a xs → id a ≡ id x → put (λ a b. nat_cmp (id a) (id b)) x xs ≡ map (swap id x) xs
+  put_replace a x low [] r h e = absurd h
+  put_replace a x low (z ∷ zs) r h e =
+      ⊎_elim
+      (λ is. let at : id z ≡ id x = ap id (sym is) ∙ e in
+      put_over x z zs at r.1
+      ∙ sym (cons_same (cond-true (id z == id x) x z (eq-eqb (id z) (id x) at)) (map_same (swap id x) (λ y. y) zs
+      (λ y k. cond-false (id y == id x) x y (ne_eqb (id y) (id x) (λ q. absurd (omega (arith, rising_from id y (id z + 1) zs r.1 k))))) ∙ map-id zs)))
+      (λ m. let after : id z + 1 ≤ id a = rising_from id a (id z + 1) zs r.1 m in
+      put_after x z zs (omega arith)
+      ∙ cons_same (sym (cond-false (id z == id x) x z (ne_eqb (id z) (id x) (λ q. absurd (omega arith))))) (put_replace a x (id z + 1) zs r.1 m e))
+      h
+
+  -- a record put whose number is greater than all stands last
+  pub put_last : (x : A) (xs : List A) → ((y : A) → Has y xs → id y < id x) → put (λ a b. nat_cmp (id a) (id b)) x xs ≡ xs ++ x ∷ []
+  put_last x xs all = put_behind cmp x xs (λ y h. nat_less (id y) (id x) (all y h))
+
+  all_after : (z : A) (rs zs : List A) → ((r : A) → Has r rs → id z < id r) → put_all cmp rs (z ∷ zs) ≡ z ∷ put_all cmp rs zs
+  all_after z [] zs h = refl
+  all_after z (r ∷ rs) zs h = ap (put_all cmp rs) (put_after r z zs (h r (inl refl))) ∙ all_after z rs (put cmp r zs) (λ q k. h q (inr k))
+
+  -- those that pass a test, each put as f of itself: the list is f of these, and the rest
+  pub puts_where : (f : A → A) (test : A → Bool) → ((x : A) → id (f x) ≡ id x) → (low : ℕ) (xs : List A) → Rising id low xs
+      → put_all (λ a b. nat_cmp (id a) (id b)) (map f (filter test xs)) xs ≡ map (change_where test f) xs
+  puts_where f test keeps low [] r = refl
+  puts_where f test keeps low (z ∷ zs) r = by (test z) (puts_where f test keeps (id z + 1) zs r.1)
+    where
+      above : (y : A) → Has y (map f (filter test zs)) → id z < id y
+      above y k =
+          let w = map_has f y (filter test zs) k in
+          let l : id z + 1 ≤ id w.0 = rising_from id w.0 (id z + 1) zs r.1 (has_filter test w.0 zs w.1.0).0 in
+          let same : id y ≡ id w.0 = ap id (sym w.1.1) ∙ keeps w.0 in omega arith
+
+      by : (b : Bool) → put_all cmp (map f (filter test zs)) zs ≡ map (change_where test f) zs
+          → put_all cmp (map f (cond b (z ∷ filter test zs) (filter test zs))) (z ∷ zs) ≡ cond b (f z) z ∷ map (change_where test f) zs
+      by true rest =
+          ap (put_all cmp (map f (filter test zs))) (put_over (f z) z zs (sym (keeps z)) r.1)
+          ∙ (all_after (f z) (map f (filter test zs)) zs (λ y k. subst (λ n. n < id y) (sym (keeps z)) (above y k)) ∙ cons_same refl rest)
+      by false rest = all_after z (map f (filter test zs)) zs above ∙ cons_same refl rest
+
+placed_here : {A : Type 0} (cmp : A → A → Ordering) (x : A) (xs : List A) → Has x (placed cmp x xs)
+placed_here cmp x [] = inl refl
+placed_here cmp x (y ∷ ys) = cond_both (is_lt (cmp y x)) (y ∷ placed cmp x ys) (x ∷ y ∷ ys) (Has x) (λ e. inr (placed_here cmp x ys)) (λ e. inl refl)
+
+pub put_here : {A : Type 0} (cmp : A → A → Ordering) (x : A) (xs : List A) → Has x (put cmp x xs)
+put_here cmp x xs = placed_here cmp x (others cmp x xs)
 
 -- ---- rows
-
-find_others : (r : BoardRow) (n : ℕ) (b : List BoardRow) → (n ≡ r.job → ⊥) → find (λ x. x.job == n) (others row_cmp r b) ≡ find (λ x. x.job == n) b
-find_others r n [] d = refl
-find_others r n (z ∷ zs) d =
-    cond_both (not (is_eq (nat_cmp z.job r.job))) (z ∷ others row_cmp r zs) (others row_cmp r zs) (λ l. find (λ x. x.job == n) l ≡ find (λ x. x.job == n) (z ∷ zs))
-    (λ e. ap (λ o. cond (z.job == n) (Some z) o) (find_others r n zs d))
-    (λ e. find_others r n zs d ∙ sym (cond-false (z.job == n) (Some z) (find (λ x. x.job == n) zs)
-    (ne_eqb z.job n (λ q. d (sym q ∙ is_it z.job r.job e)))))
-  where
-    is_it : (a b : ℕ) → not (is_eq (nat_cmp a b)) ≡ false → a ≡ b
-    is_it a b e = ⊎_elim (λ q. same a b q) (λ q. absurd (false≢true (sym e ∙ ap not q))) (cases_Bool (is_eq (nat_cmp a b)))
 
 find_placed : (r : BoardRow) (n : ℕ) (b : List BoardRow) → (n ≡ r.job → ⊥) → find (λ x. x.job == n) (placed row_cmp r b) ≡ find (λ x. x.job == n) b
 find_placed r n [] d = cond-false (r.job == n) (Some r) None (ne_eqb r.job n (λ q. d (sym q)))
@@ -106,4 +158,6 @@ pub row_put : (r : BoardRow) (b : List BoardRow) → row_for (put row_cmp r b) r
 row_put r b = ap row_or_none (find_its r (others row_cmp r b) (λ y h. different y.job r.job (has_filter (λ z. not (is_eq (nat_cmp z.job r.job))) y b h).1))
 
 pub row_other : (r : BoardRow) (n : ℕ) (b : List BoardRow) → (n ≡ r.job → ⊥) → row_for (put row_cmp r b) n ≡ row_for b n
-row_other r n b d = ap row_or_none (find_placed r n (others row_cmp r b) d ∙ find_others r n b d)
+row_other r n b d =
+    ap row_or_none (find_placed r n (others row_cmp r b) d
+    ∙ find_implied (λ x. x.job == n) (λ x. not (is_eq (nat_cmp x.job r.job))) b (λ x h e. unequal x.job r.job (λ q. d (sym (eqb-true x.job n e) ∙ q))))

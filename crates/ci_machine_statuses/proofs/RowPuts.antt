@@ -1,89 +1,23 @@
 -- The rows of one pipeline put where others stood.
-use Rattle.std.proofs.Common.{◌≡◌, ◌⊎◌, ℕ, suc, ◌+◌, ◌<◌, ◌≤◌, Bool, true, false, cond, ◌==◌, List, [], ◌∷◌, ◌++◌, length, map, All, if◌then◌else◌, refl, sym, ap, subst, ◌∙◌, inl}
-use Rattle.std.proofs.Common.{inr, ⊎_elim, arith, eqb-true}
+use Rattle.std.proofs.Common.{◌≡◌, ℕ, suc, ◌+◌, ◌<◌, ◌≤◌, ◌==◌, List, [], ◌∷◌, ◌++◌, length, map, All, refl, sym, ap, subst, ◌∙◌, inl, inr, ⊎_elim, arith, eqb-true}
 use Rattle.std.proofs.lemmas.Bool.{cond_both}
 use Rattle.std.specs.List.{AllByRecursion}
-use Rattle.std.proofs.lemmas.List.{append_assoc}
 use Rattle.std.proofs.lemmas.List.Elements.{All-from_recursion}
-use Rattle.ci_machine_steps.specs.Prelude.{Row, same_row, differing, no_row, BoardRow, put, row_cmp, put_rows, row_for, row_or_none}
+use Rattle.ci_machine_steps.specs.Prelude.{Row, same_row, differing, BoardRow, put, row_cmp, put_rows, row_for, row_or_none}
 use Rattle.ci_board.proofs.Exact.{row_equal}
 use Rattle.ci_machine.proofs.Keyed.{Has, Rising, rising_from, find_has, map_has}
+use Rattle.ci_machine_steps.proofs.Behind.{put_all, all_behind, rising_ordered, nat_less}
 use Rattle.ci_machine_statuses.specs.Boards.{board_row, changed_rows}
-use Rattle.ci_machine_statuses.proofs.Puts.{cons_same, map_same, swap, put_replace, put_last, row_put, row_other}
+use Rattle.ci_machine_statuses.proofs.Puts.{job_of, cons_same, map_same, map_twice, swap, put_replace, row_put, row_other}
 
--- the rows that differ, side by side with the numbers
-abbrev pub row_puts : List ℕ → List Row → List Row → List BoardRow
-row_puts [] olds rows = []
-row_puts (n ∷ ns) [] rows = []
-row_puts (n ∷ ns) (a ∷ olds) [] = []
-row_puts (n ∷ ns) (a ∷ olds) (b ∷ rows) = if same_row a b then row_puts ns olds rows else record { job = n; row = b } ∷ row_puts ns olds rows
-
--- ---- they are the rows at the positions that differ
-
-both_named : (F : ℕ → BoardRow) (c : Bool) (k : ℕ) (xs : List ℕ) (y : BoardRow) (ys : List BoardRow) → F k ≡ y → map F xs ≡ ys → map F (cond c xs (k ∷ xs)) ≡ cond c ys (y ∷ ys)
-both_named F true k xs y ys e h = h
-both_named F false k xs y ys e h = cons_same e h
-
-puts_named : (F : ℕ → BoardRow) (k : ℕ) (ns : List ℕ) (olds rows : List Row) → length ns ≡ length olds → length olds ≡ length rows
-    → ((i : ℕ) → F (k + i) ≡ board_row ns rows i) → map F (differing k olds rows) ≡ row_puts ns olds rows
-puts_named F k [] [] [] l w h = refl
-puts_named F k [] [] (b ∷ rows) l w h = absurd (omega arith)
-puts_named F k [] (a ∷ olds) rows l w h = absurd (omega arith)
-puts_named F k (n ∷ ns) [] rows l w h = absurd (omega arith)
-puts_named F k (n ∷ ns) (a ∷ olds) [] l w h = absurd (omega arith)
-puts_named F k (n ∷ ns) (a ∷ olds) (b ∷ rows) l w h =
-    both_named F (same_row a b) k (differing (k + 1) olds rows) (record { job = n; row = b }) (row_puts ns olds rows)
-    (ap F (let z : k ≡ k + 0 = omega arith in z) ∙ h 0)
-    (puts_named F (k + 1) ns olds rows (omega arith) (omega arith) (λ i. ap F (let z : k + 1 + i ≡ k + suc i = omega arith in z) ∙ h (suc i)))
-
-pub changed_are : (ns : List ℕ) (olds rows : List Row) → length ns ≡ length olds → length olds ≡ length rows → changed_rows ns olds rows ≡ row_puts ns olds rows
-changed_are ns olds rows l w = puts_named (board_row ns rows) 0 ns olds rows l w (λ i. ap (board_row ns rows) (let z : 0 + i ≡ i = omega arith in z))
-
--- ---- what they do to a board
-
-abbrev head_row : List Row → Row
-head_row [] = no_row
-head_row (r ∷ rs) = r
-
-abbrev tail_rows : List Row → List Row
-tail_rows [] = []
-tail_rows (r ∷ rs) = rs
+-- ---- rows that are put
 
 -- the rows of other jobs stay
-pub puts_other : (ns : List ℕ) (olds rows : List Row) (board : List BoardRow) (m : ℕ) → (Has m ns → ⊥) → row_for (put_rows (row_puts ns olds rows) board) m ≡ row_for board m
-puts_other [] olds rows board m d = refl
-puts_other (n ∷ ns) [] rows board m d = refl
-puts_other (n ∷ ns) (a ∷ olds) [] board m d = refl
-puts_other (n ∷ ns) (a ∷ olds) (b ∷ rows) board m d =
-    let r : BoardRow = record { job = n; row = b } in
-    cond_both (same_row a b) (row_puts ns olds rows) (r ∷ row_puts ns olds rows) (λ rs. row_for (put_rows rs board) m ≡ row_for board m)
-    (λ e. puts_other ns olds rows board m (λ h. d (inr h)))
-    (λ e. puts_other ns olds rows (put row_cmp r board) m (λ h. d (inr h)) ∙ row_other r m board (λ q. d (inl q)))
-
--- these jobs have the new rows then
-pub puts_rows : (low : ℕ) (ns : List ℕ) (olds rows : List Row) (board : List BoardRow) → Rising (λ n. n) low ns → length ns ≡ length olds → length olds ≡ length rows
-    → map (row_for board) ns ≡ olds → map (row_for (put_rows (row_puts ns olds rows) board)) ns ≡ rows
-puts_rows low [] [] [] board r l w e = refl
-puts_rows low [] [] (b ∷ rows) board r l w e = absurd (omega arith)
-puts_rows low [] (a ∷ olds) rows board r l w e = absurd (omega arith)
-puts_rows low (n ∷ ns) [] rows board r l w e = absurd (omega arith)
-puts_rows low (n ∷ ns) (a ∷ olds) [] board r l w e = absurd (omega arith)
-puts_rows low (n ∷ ns) (a ∷ olds) (b ∷ rows) board r l w e =
-    let new : BoardRow = record { job = n; row = b } in
-    let fresh : Has n ns → ⊥ = λ h. let m : n + 1 ≤ n = rising_from (λ x. x) n (n + 1) ns r.1 h in omega arith in
-    cond_both (same_row a b) (row_puts ns olds rows) (new ∷ row_puts ns olds rows)
-    (λ rs. map (row_for (put_rows rs board)) (n ∷ ns) ≡ b ∷ rows)
-    (λ q. cons_same (puts_other ns olds rows board n fresh ∙ (ap head_row e ∙ (row_equal a b).0 q))
-    (puts_rows (n + 1) ns olds rows board r.1 (omega arith) (omega arith) (ap tail_rows e)))
-    (λ q. let before : map (row_for (put row_cmp new board)) ns ≡ olds = map_same (row_for (put row_cmp new board)) (row_for board) ns
-    (λ m h. row_other new m board (λ z. fresh (subst (λ x. Has x ns) z h))) ∙ ap tail_rows e in
-    cons_same (puts_other ns olds rows (put row_cmp new board) n fresh ∙ row_put new board)
-    (puts_rows (n + 1) ns olds rows (put row_cmp new board) r.1 (omega arith) (omega arith) before))
+pub others_stay : (rows board : List BoardRow) (n : ℕ) → ((r : BoardRow) → Has r rows → n ≡ r.job → ⊥) → row_for (put_rows rows board) n ≡ row_for board n
+others_stay [] board n d = refl
+others_stay (r ∷ rows) board n d = others_stay rows (put row_cmp r board) n (λ x h. d x (inr h)) ∙ row_other r n board (d r (inl refl))
 
 -- ---- the keys of a board
-
-abbrev job_of : BoardRow → ℕ
-job_of r = r.job
 
 pub map_rises : {A : Type 0} (id : A → ℕ) (low : ℕ) (xs : List A) → Rising id low xs → Rising (λ n. n) low (map id xs)
 map_rises id low [] r = tt
@@ -100,43 +34,90 @@ rises_like id ib low xs ys e r = rises_from_map id low xs (subst (Rising (λ n. 
 pub put_keys : (r : BoardRow) (board : List BoardRow) → Rising (λ x. x.job) 0 board → Has r.job (map (λ x. x.job) board) → map (λ x. x.job) (put row_cmp r board) ≡ map (λ x. x.job) board
 put_keys r board rise h =
     let old = map_has job_of r.job board h in
-    ap (map job_of) (put_replace job_of old.0 r 0 board rise old.1.0 old.1.1) ∙ kept board
-  where
-    kept : (b : List BoardRow) → map job_of (map (swap job_of r) b) ≡ map job_of b
-    kept [] = refl
-    kept (y ∷ b) = cons_same (cond_both (y.job == r.job) r y (λ (w : BoardRow). w.job ≡ y.job) (λ e. sym (eqb-true y.job r.job e)) (λ e. refl)) (kept b)
+    ap (map job_of) (put_replace job_of old.0 r 0 board rise old.1.0 old.1.1)
+    ∙ (map_twice job_of (swap job_of r) board
+    ∙ map_same (λ y. (swap job_of r y).job) job_of board (λ y k. cond_both (y.job == r.job) r y (λ (w : BoardRow). w.job ≡ y.job) (λ e. sym (eqb-true y.job r.job e)) (λ e. refl)))
 
-pub puts_keys : (ns : List ℕ) (olds rows : List Row) (board : List BoardRow) → Rising (λ x. x.job) 0 board → ((n : ℕ) → Has n ns → Has n (map (λ x. x.job) board))
-    → map (λ x. x.job) (put_rows (row_puts ns olds rows) board) ≡ map (λ x. x.job) board
-puts_keys [] olds rows board rise h = refl
-puts_keys (n ∷ ns) [] rows board rise h = refl
-puts_keys (n ∷ ns) (a ∷ olds) [] board rise h = refl
-puts_keys (n ∷ ns) (a ∷ olds) (b ∷ rows) board rise h =
-    let r : BoardRow = record { job = n; row = b } in
-    let first = put_keys r board rise (h n (inl refl)) in
-    cond_both (same_row a b) (row_puts ns olds rows) (r ∷ row_puts ns olds rows) (λ rs. map job_of (put_rows rs board) ≡ map job_of board)
-    (λ e. puts_keys ns olds rows board rise (λ m l. h m (inr l)))
-    (λ e. puts_keys ns olds rows (put row_cmp r board) (rises_like job_of job_of 0 (put row_cmp r board) board first rise) (λ m l. subst (Has m) (sym first) (h m (inr l))) ∙ first)
+keys_stay : (rows board : List BoardRow) → Rising (λ x. x.job) 0 board → ((r : BoardRow) → Has r rows → Has r.job (map (λ x. x.job) board)) → map (λ x. x.job) (put_rows rows board) ≡ map (λ x. x.job) board
+keys_stay [] board rise h = refl
+keys_stay (r ∷ rows) board rise h =
+    let first = put_keys r board rise (h r (inl refl)) in
+    keys_stay rows (put row_cmp r board) (rises_like job_of job_of 0 (put row_cmp r board) board first rise) (λ x l. subst (Has x.job) (sym first) (h x (inr l))) ∙ first
 
 -- a row of a board is found at its job
 pub its_row : (low : ℕ) (board : List BoardRow) (r : BoardRow) → Rising (λ x. x.job) low board → Has r board → row_for board r.job ≡ r.row
 its_row low board r rise h = ap row_or_none (find_has job_of r low board rise h)
 
 -- rows behind all others are added at the end
+rows_put : (rows board : List BoardRow) → put_rows rows board ≡ put_all row_cmp rows board
+rows_put [] board = refl
+rows_put (r ∷ rows) board = rows_put rows (put row_cmp r board)
+
 pub puts_behind : (low : ℕ) (rows board : List BoardRow) → Rising (λ x. x.job) low rows → ((y : BoardRow) → Has y board → y.job < low) → put_rows rows board ≡ board ++ rows
-puts_behind low [] board r below = sym (append_none board)
-  where
-    append_none : (l : List BoardRow) → l ++ [] ≡ l
-    append_none [] = refl
-    append_none (x ∷ l) = ap (λ m. x ∷ m) (append_none l)
-puts_behind low (x ∷ rows) board r below =
-    ap (put_rows rows) (put_last job_of x board (λ y h. omega (arith, below y h, r.0)))
-    ∙ (puts_behind (x.job + 1) rows (board ++ x ∷ []) r.1 (λ y h. ⊎_elim (λ m. omega (arith, below y m, r.0)) (λ e. let same : y.job ≡ x.job = ap job_of e in omega arith) (ends y board h))
-    ∙ append_assoc board (x ∷ []) rows)
-  where
-    ends : (y : BoardRow) (l : List BoardRow) → Has y (l ++ x ∷ []) → Has y l ⊎ (y ≡ x)
-    ends y [] h = ⊎_elim (λ e. inr e) (λ m. absurd m) h
-    ends y (z ∷ l) h = ⊎_elim (λ e. inl (inl e)) (λ m. ⊎_elim (λ q. inl (inr q)) (λ q. inr q) (ends y l m)) h
+puts_behind low rows board r below =
+    rows_put rows board
+    ∙ all_behind row_cmp rows board (rising_ordered job_of low rows r) (λ q k y m. nat_less y.job q.job (omega (arith, below y m, rising_from job_of q low rows r k)))
+
+-- ---- the rows that differ are put
+
+-- Of jobs with these numbers f has the rows before, and F the new ones from a position on.
+module _ (F : ℕ → BoardRow) (f : ℕ → Row) where
+  abbrev Are : ℕ → List ℕ → List Row → Type 0
+  Are k ns rows = (i : ℕ) → F (k + i) ≡ board_row ns rows i
+
+  first : (k n : ℕ) (ns : List ℕ) (b : Row) (rows : List Row) → Are k (n ∷ ns) (b ∷ rows) → F k ≡ record { job = n; row = b }
+  first k n ns b rows h = ap F (let z : k ≡ k + 0 = omega arith in z) ∙ h 0
+
+  next : (k n : ℕ) (ns : List ℕ) (b : Row) (rows : List Row) → Are k (n ∷ ns) (b ∷ rows) → Are (k + 1) ns rows
+  next k n ns b rows h i = ap F (let z : k + 1 + i ≡ k + suc i = omega arith in z) ∙ h (suc i)
+
+  -- they are of these jobs
+  of_these : (k : ℕ) (ns : List ℕ) (rows : List Row) → Are k ns rows → (r : BoardRow) → Has r (map F (differing k (map f ns) rows)) → Has r.job ns
+  of_these k [] rows h r m = absurd m
+  of_these k (n ∷ ns) [] h r m = absurd m
+  of_these k (n ∷ ns) (b ∷ rows) h r m =
+      let rest = of_these (k + 1) ns rows (next k n ns b rows h) r in
+      cond_both (same_row (f n) b) (differing (k + 1) (map f ns) rows) (k ∷ differing (k + 1) (map f ns) rows) (λ ks. Has r (map F ks) → Has r.job (n ∷ ns))
+      (λ _ q. inr (rest q)) (λ _ q. ⊎_elim (λ e. inl (ap job_of (e ∙ first k n ns b rows h))) (λ l. inr (rest l)) q) m
+
+  -- and these jobs have the new rows then
+  lead_to : (k low : ℕ) (ns : List ℕ) (rows : List Row) (board : List BoardRow) → Rising (λ n. n) low ns → length rows ≡ length ns → Are k ns rows
+      → ((n : ℕ) → Has n ns → row_for board n ≡ f n) → map (row_for (put_rows (map F (differing k (map f ns) rows)) board)) ns ≡ rows
+  lead_to k low [] [] board r l h was = refl
+  lead_to k low [] (b ∷ rows) board r l h was = absurd (omega arith)
+  lead_to k low (n ∷ ns) [] board r l h was = absurd (omega arith)
+  lead_to k low (n ∷ ns) (b ∷ rows) board r l h was =
+      let puts : List ℕ = differing (k + 1) (map f ns) rows in
+      let new : F k ≡ record { job = n; row = b } = first k n ns b rows h in
+      let fresh : (m : ℕ) → Has m ns → m ≡ n → ⊥ = λ m q e. omega (arith, rising_from (λ x. x) m (n + 1) ns r.1 q) in
+      let stays : (c : List BoardRow) → row_for (put_rows (map F puts) c) n ≡ row_for c n
+      = λ c. others_stay (map F puts) c n (λ x q e. fresh x.job (of_these (k + 1) ns rows (next k n ns b rows h) x q) (sym e)) in
+      let rest = λ (c : List BoardRow). lead_to (k + 1) (n + 1) ns rows c r.1 (omega arith) (next k n ns b rows h) in
+      cond_both (same_row (f n) b) puts (k ∷ puts) (λ ks. map (row_for (put_rows (map F ks) board)) (n ∷ ns) ≡ b ∷ rows)
+      (λ q. cons_same (stays board ∙ (was n (inl refl) ∙ (row_equal (f n) b).0 q)) (rest board (λ m z. was m (inr z))))
+      (λ q. cons_same
+      (stays (put row_cmp (F k) board) ∙ (ap (row_for (put row_cmp (F k) board)) (sym (ap job_of new)) ∙ (row_put (F k) board ∙ ap (λ (x : BoardRow). x.row) new)))
+      (rest (put row_cmp (F k) board) (λ m z. row_other (F k) m board (λ e. fresh m z (e ∙ ap job_of new)) ∙ was m (inr z))))
+
+module _ (ns : List ℕ) (rows : List Row) (board : List BoardRow) where
+  abbrev puts : List BoardRow
+  puts = changed_rows ns (map (row_for board) ns) rows
+
+  are : (i : ℕ) → board_row ns rows (0 + i) ≡ board_row ns rows i
+  are i = ap (board_row ns rows) (let z : 0 + i ≡ i = omega arith in z)
+
+  its_number : (r : BoardRow) → Has r puts → Has r.job ns
+  its_number = of_these (board_row ns rows) (row_for board) 0 ns rows are
+
+  pub changed_own : Rising (λ n. n) 0 ns → length rows ≡ length ns → map (row_for (put_rows (changed_rows ns (map (row_for board) ns) rows) board)) ns ≡ rows
+  changed_own rise long = lead_to (board_row ns rows) (row_for board) 0 0 ns rows board rise long are (λ n h. refl)
+
+  pub changed_other : (m : ℕ) → (Has m ns → ⊥) → row_for (put_rows (changed_rows ns (map (row_for board) ns) rows) board) m ≡ row_for board m
+  changed_other m d = others_stay puts board m (λ r h e. d (subst (λ n. Has n ns) (sym e) (its_number r h)))
+
+  pub changed_keys : Rising (λ x. x.job) 0 board → ((n : ℕ) → Has n ns → Has n (map (λ x. x.job) board))
+      → map (λ x. x.job) (put_rows (changed_rows ns (map (row_for board) ns) rows) board) ≡ map (λ x. x.job) board
+  changed_keys rise h = keys_stay puts board rise (λ r k. h r.job (its_number r k))
 
 -- ---- the positions that differ
 

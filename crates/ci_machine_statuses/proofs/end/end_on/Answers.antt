@@ -1,4 +1,4 @@
-use Rattle.std.proofs.Common.{refl, subst, ap, ◌∙◌, ◌<◌, ◌≡◌, length, map, sym, slice_index_or, [], ◌∷◌}
+use Rattle.std.proofs.Common.{subst, ap, ◌∙◌, ◌≡◌, length, map, sym, [], ◌∷◌}
 use Rattle.ci_machine.specs.Prelude.{JobGraph}
 use Rattle.ci_machine_steps.specs.Prelude.{pipeline_status, AreRows, BoardState, replaced, statuses, facts_of, rows_of}
 use Rattle.ci_machine_steps.proofs.Sound.{sound}
@@ -18,13 +18,10 @@ returns-clause-settled g c = λ s board pipeline needs is_sound are records of l
     (record { parts = ap (λ (x : JobGraph). x.parts) graph ∙ of.parts; predecessors = λ up. ap (λ (x : JobGraph). x.predecessors) graph ∙ of.predecessors up })
     (ap (λ (x : BoardState). x.facts) c.load-board.ensures ∙ c.in_ok-facts.ensures.facts s board pipeline needs is_sound are records)
     (ap (λ (x : BoardState). x.rows) c.load-board.ensures ∙ c.in_ok-facts.ensures.rows s board pipeline needs is_sound are records) in
-    ends s board pipeline (sound s is_sound) are c.args.after.now live change.position
-    (subst (λ n. change.position < n) (ap length records.are_jobs) c.in-Some.ensures.within)
-    (ap (λ js. slice_index_or (map (λ j. j.id) js) change.position 0) (sym records.are_jobs) ∙ c.in-Some.ensures.job)
-    c.args.jobs.now b change c.settle.new.board.facts
+    ends s board pipeline (sound s is_sound) are c.args.after.now live c.args.jobs.now b change
     (record { facts = c.into_parts-graph.result.1; rows = c.into_parts-graph.result.2; changed = c.in_ok-changed.changed })
-    records.are_jobs is refl c.in-Some.ensures.facts
-    parts.facts c.in_ok-changed.ensures.facts
+    records.are_jobs c.in-Some.ensures.within c.in-Some.ensures.job is c.in-Some.ensures.facts
+    (λ before. parts.facts ∙ c.in_ok-changed.ensures.facts before)
     (ap length parts.rows ∙ c.in_ok-changed.ensures.long)
     (λ before. subst (λ rows. AreRows b.graph (replaced (change ∷ []) b.facts) rows) (sym parts.rows) (c.in_ok-changed.ensures.right before))
     (c.in_ok-changed.ensures.rows ∙ ap (changed_rows (map (λ j. j.id) c.args.jobs.now) b.rows) (sym parts.rows))

@@ -4,8 +4,7 @@ use Rattle.ci_machine.specs.Prelude.{is_among}
 use Rattle.ci_machine_steps.specs.Prelude.{BoardRow, row_for}
 use Rattle.ci_machine_steps.proofs.Sound.{sound}
 use Rattle.ci_machine_statuses.proofs.Found.{passed_on}
-use Rattle.ci_machine_statuses.proofs.Loaded.{numbers_ascend, rows_ascend, all_facts, all_rows}
-use Rattle.ci_machine_statuses.proofs.There.{attempts_are_there, rows_are_there}
+use Rattle.ci_machine_statuses.proofs.Loaded.{numbers_ascend, rows_ascend, all_facts, all_rows, attempts_are_there, rows_are_there}
 use Rattle.ci_machine_statuses.proofs.load.facts_and_rows.Goals as goal
 
 pub returns-clause-facts : goal.returns-clause-facts

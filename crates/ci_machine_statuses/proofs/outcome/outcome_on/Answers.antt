@@ -23,12 +23,12 @@ pub returns-clause-outcome : goal.returns-clause-outcome
 returns-clause-outcome g c = λ s board pipeline is_sound are records.
     let b = c.in_ok-board.board in
     let changes = c.as_slice-2.result.now in
-    outcome_is c.args.act c.args.only s board pipeline (sound s is_sound) are c.args.jobs.now b changes c.settle.new.board.facts
+    outcome_is c.args.act c.args.only s board pipeline (sound s is_sound) are c.args.jobs.now b changes
     (record { places = c.in_ok-places.places; facts = c.in_ok-facts.facts; rows = c.in_ok-rows.rows; changed = c.in_ok-changed.changed })
     records.are_jobs (c.in_ok-board.ensures.board s board pipeline is_sound are records)
     c.in_ok-places.ensures
     (c.as_slice-2.ensures.value ∙ (c.in_ok-changes.ensures ∙ ap (map (facts_change c.args.act b.facts)) c.as_slice.ensures.value))
-    c.in_ok-facts.ensures c.in_ok-changed.ensures.facts
+    (λ before. c.in_ok-facts.ensures ∙ c.in_ok-changed.ensures.facts before)
     (ap length c.in_ok-rows.ensures ∙ c.in_ok-changed.ensures.long)
     (λ before. subst (λ rows. AreRows b.graph (replaced changes b.facts) rows) (sym c.in_ok-rows.ensures) (c.in_ok-changed.ensures.right before))
     (c.in_ok-changed.ensures.rows ∙ ap (changed_rows (map (λ j. j.id) c.args.jobs.now) b.rows) (sym c.in_ok-rows.ensures))
