@@ -26,16 +26,18 @@ marked_is Play s j = refl
 marked_is Retry s j = refl
 marked_is Cancel s j = refl
 
+-- what doesn't depend on what was done to a job
+abbrev pub Unmarked : {B : Type 0} → (Job → B) → Type 0
+Unmarked g = (j : Job) (played cancelled : Bool) (n : ℕ) → g (record j { played = played; cancelled = cancelled; set_aside = n }) ≡ g j
+
 -- the leases that end are those on the jobs whose leases end
 pub leases_are : (act : Act) (attempts : List Attempt) (jobs : List Job) → ended_leases act attempts jobs ≡ filter (is_lease_on (unleased act jobs)) attempts
-leases_are Play attempts jobs = sym (filter_none (is_lease_on []) attempts (λ a h. and_right (is_live a) false refl))
-leases_are Retry attempts jobs = sym (filter_none (is_lease_on []) attempts (λ a h. and_right (is_live a) false refl))
 leases_are Cancel attempts jobs = refl
+leases_are _ attempts jobs = sym (filter_none (is_lease_on []) attempts (λ a h. and_right (is_live a) false refl))
 
 none_unleased : (act : Act) (jobs : List Job) (n : ℕ) → is_job_among jobs n ≡ false → is_job_among (unleased act jobs) n ≡ false
-none_unleased Play jobs n e = refl
-none_unleased Retry jobs n e = refl
 none_unleased Cancel jobs n e = e
+none_unleased _ jobs n e = refl
 
 -- of jobs of different numbers those that pass a test have their numbers alone
 among_passing : (test : Job → Bool) (j : Job) (js : List Job) → Rising (λ i. i.id) 0 js → Has j js → is_job_among (filter test js) j.id ≡ test j
@@ -53,23 +55,27 @@ among_passing test j js rise h =
 -- a live attempt that is cancelled stands so, and the others as they did
 stands_cancelled : (a : Attempt) (x : AttemptState) → Some (if is_live_state x then cancelled_attempt a else record a { state = x }).state ≡ cancelled_last (Some x)
 stands_cancelled a AttemptState.Live = refl
-stands_cancelled a (AttemptState.Succeeded exit) = refl
-stands_cancelled a (AttemptState.Failed cause exit) = refl
-stands_cancelled a AttemptState.Cancelled = refl
+stands_cancelled a _ = refl
+
+-- where no lease ends, the facts stay
+none_end : (l : List Attempt) (j : Job) → facts_with (map (change_where (is_lease_on []) cancelled_attempt) l) j ≡ facts_with l j
+none_end l j =
+    facts_kept (change_where (is_lease_on []) cancelled_attempt) l j
+    (λ a h. ap (λ (b : Bool). (if b then cancelled_attempt a else a).state) (and_right (is_live a) false refl))
 
 -- the facts of a job to which it was done
 acted_facts : (act : Act) (s : State) (jobs : List Job) (j : Job) → is_job_among jobs j.id ≡ true
     → facts_with (map (change_where (is_lease_on (unleased act jobs)) cancelled_attempt) (attempts_of s j.id)) (marked act s j) ≡ acted act (facts_in s j)
-acted_facts Play s jobs j among = facts_kept (change_where (is_lease_on []) cancelled_attempt) (attempts_of s j.id) (marked Play s j) (λ a h. ap (λ (b : Bool). (if b then cancelled_attempt a else a).state) (and_right (is_live a) false refl))
+acted_facts Play s jobs j among = none_end (attempts_of s j.id) (marked Play s j)
 acted_facts Retry s jobs j among =
     let l = attempts_of s j.id in
     let none : length l - length l ≡ 0 = omega arith in
-    facts_kept (change_where (is_lease_on []) cancelled_attempt) l (marked Retry s j) (λ a h. ap (λ (b : Bool). (if b then cancelled_attempt a else a).state) (and_right (is_live a) false refl))
-    ∙ (λ i. record (facts_in s j) { attempts = none i; cancelled = false })
+    none_end l (marked Retry s j) ∙ (λ i. record (facts_in s j) { attempts = none i; cancelled = false })
 acted_facts Cancel s jobs j among =
     facts_mapped (change_where (is_lease_on jobs) cancelled_attempt) cancelled_last (attempts_of s j.id) (marked Cancel s j) refl
     (λ a h. let its : a.job ≡ j.id = eqb-true a.job j.id (has_filter (λ (b : Attempt). b.job == j.id) a s.attempts h).1 in
-    ap (λ (b : Bool). Some (if b then cancelled_attempt a else a).state) (ap (λ b. is_live a && b) (ap (is_job_among jobs) its ∙ among) ∙ and_true (is_live a)) ∙ stands_cancelled a a.state)
+    let all : is_lease_on jobs a ≡ is_live a = ap (λ b. is_live a && b) (ap (is_job_among jobs) its ∙ among) ∙ and_true (is_live a) in
+    ap (λ (b : Bool). Some (if b then cancelled_attempt a else a).state) all ∙ stands_cancelled a a.state)
   where
     and_true : (b : Bool) → (b && true) ≡ b
     and_true true = refl
@@ -111,7 +117,8 @@ module _ (s : State) (act : Act) (p : ℕ) (test : Job → Bool) (sound : Sound 
   after_is =
       let ended = ended_leases act s.attempts done_to in
       let jobs_put : put_all job_cmp (map (marked act s) done_to) s.jobs ≡ map of_job s.jobs
-      = ap (λ (js : List Job). put_all job_cmp (map (marked act s) js) s.jobs) chosen_are ∙ puts_where number (marked act s) chosen (λ j. ap number (marked_is act s j)) 0 s.jobs sound.jobs in
+      = ap (λ (js : List Job). put_all job_cmp (map (marked act s) js) s.jobs) chosen_are
+      ∙ puts_where number (marked act s) chosen (λ j. ap number (marked_is act s j)) 0 s.jobs sound.jobs in
       let attempts_put : put_all attempt_cmp (map cancelled_attempt ended) s.attempts ≡ map new_attempt s.attempts
       = ap (λ (l : List Attempt). put_all attempt_cmp (map cancelled_attempt l) s.attempts) (leases_are act s.attempts done_to)
       ∙ puts_where attempt_id cancelled_attempt gone (λ a. refl) 0 s.attempts sound.attempts in
@@ -120,14 +127,13 @@ module _ (s : State) (act : Act) (p : ℕ) (test : Job → Bool) (sound : Sound 
       ∙ (put_attempts ended (record s { jobs = put_all job_cmp (map (marked act s) done_to) s.jobs })
       ∙ (λ i. record s { jobs = jobs_put i; attempts = attempts_put i })))
 
-  -- what doesn't depend on what was done to a job, all jobs keep
-  pub keeps : {B : Type 0} (g : Job → B) → ((j : Job) (played cancelled : Bool) (n : ℕ) → g (record j { played = played; cancelled = cancelled; set_aside = n }) ≡ g j) → (j : Job) → g (of_job j) ≡ g j
+  -- which all jobs keep
+  pub keeps : {B : Type 0} (g : Job → B) → Unmarked g → (j : Job) → g (of_job j) ≡ g j
   keeps g same j =
       cond_both (chosen j) (marked act s j) j (λ (i : Job). g i ≡ g j)
       (λ _. ap g (marked_is act s j) ∙ same j (marked act s j).played (marked act s j).cancelled (marked act s j).set_aside) (λ _. refl)
 
-  pub all_keep : {B : Type 0} (g : Job → B) → ((j : Job) (played cancelled : Bool) (n : ℕ) → g (record j { played = played; cancelled = cancelled; set_aside = n }) ≡ g j)
-      → (l : List Job) → map g (map of_job l) ≡ map g l
+  pub all_keep : {B : Type 0} (g : Job → B) → Unmarked g → (l : List Job) → map g (map of_job l) ≡ map g l
   all_keep g same l = map_twice g of_job l ∙ map_same (λ j. g (of_job j)) g l (λ j h. keeps g same j)
 
   pub jobs_after : (q : ℕ) → jobs_of t q ≡ map of_job (jobs_of s q)

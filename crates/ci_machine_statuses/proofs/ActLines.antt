@@ -1,11 +1,11 @@
 -- A user acts on jobs of a pipeline: the rows after it, and of which other jobs its jobs wait then, which is as before.
-use Rattle.std.proofs.Common.{◌≡◌, ℕ, Bool, ◌&&◌, ◌==◌, List, ◌++◌, length, map, filter, Option, refl, sym, ap, ◌∙◌, ⊎_elim, eq-eqb, eqb-true}
+use Rattle.std.proofs.Common.{◌≡◌, ℕ, Bool, ◌&&◌, ◌==◌, List, ◌++◌, length, map, filter, Option, refl, sym, ap, ◌∙◌, ⊎_elim, eqb-true}
 use Rattle.std.proofs.lemmas.Bool.{cond-false, cases_Bool, eqb-false}
 use Rattle.std.proofs.lemmas.List.{length-map}
 use Rattle.std.proofs.lemmas.List.Folds.{flat_map-map}
 use Rattle.ci_machine_steps.specs.Prelude.{Row, BoardRow, GroupMode, Job, WaitingJob, State, put_rows, jobs_of, numbers_of, rows_of, row_for, status_for, held_claim, waiting_claim}
 use Rattle.ci_machine_steps.specs.Prelude.{is_first, claims_on, holders, queued, waits_as, waiting, groups_with, claims_in}
-use Rattle.ci_machine.proofs.Keyed.{Has, filter_has, has_map}
+use Rattle.ci_machine.proofs.Keyed.{Has, has_map}
 use Rattle.ci_machine_steps.proofs.Sound.{Sound}
 use Rattle.ci_machine_statuses.specs.declared.act.Act.{Act}
 use Rattle.ci_machine_statuses.specs.declared.outcome.Outcome.{Outcome}
@@ -16,6 +16,7 @@ use Rattle.ci_machine_statuses.proofs.RowPuts.{changed_own, changed_other}
 use Rattle.ci_machine_statuses.proofs.Joint.{numbers_rise, apart}
 use Rattle.ci_machine_statuses.proofs.ActFacts.{t, after_is, within, of_job, keeps, outside}
 use Rattle.ci_machine_statuses.proofs.Lines.{own_first, passing_alike}
+use Rattle.ci_machine_statuses.proofs.Facts.{its_own}
 
 module _ (act : Act) (only : Option ℕ) (s : State) (board : List BoardRow) (n : ℕ) (o : Outcome) (sound : Sound s) (outcome : IsOutcome act only s board n o) where
   abbrev test : Job → Bool
@@ -48,13 +49,10 @@ module _ (act : Act) (only : Option ℕ) (s : State) (board : List BoardRow) (n 
   rows_after = ap (map (row_for after)) its_numbers ∙ own_rows
 
   -- a job of another pipeline stays as it is
-  its_own : (j : Job) → Has j s.jobs → Has j (jobs_of s j.pipeline)
-  its_own j has = filter_has (λ (i : Job). i.pipeline == j.pipeline) j s.jobs has (eq-eqb j.pipeline j.pipeline refl)
-
   other_row : (j : Job) → Has j s.jobs → (n ≡ j.pipeline → ⊥) → row_for after j.id ≡ row_for board j.id
   other_row j has d =
       ap (λ (b : List BoardRow). row_for b j.id) after_puts
-      ∙ changed_other (numbers_of s n) o.rows.items board j.id (λ z. apart s n j.pipeline j.id sound d z (has_map number j (jobs_of s j.pipeline) (its_own j has)))
+      ∙ changed_other (numbers_of s n) o.rows.items board j.id (λ z. apart s n j.pipeline j.id sound d z (has_map number j (jobs_of s j.pipeline) (its_own s j has)))
 
   abbrev F : Job → Job
   F = of_job s act n test sound

@@ -21,6 +21,7 @@ use Rattle.ci_machine_statuses.proofs.Puts.{number, map_filter, more_in, more_ou
 use Rattle.ci_machine_statuses.proofs.Ends.{settled_by}
 use Rattle.ci_machine_statuses.proofs.Joint.{rows_same, settled}
 use Rattle.ci_machine_statuses.proofs.ActFacts.{t, after_is, its_facts, within}
+use Rattle.ci_machine_statuses.proofs.Facts.{its_own}
 
 -- ---- the board after
 
@@ -185,7 +186,8 @@ pub all_positions : (act : Act) (facts : List Facts) (m : ℕ) (places : List �
     → All (λ c. c.position < m) changes
 all_positions act facts m places changes r n e same is =
     subst (All (λ c. c.position < m)) (sym is) (All-from_has (λ c. c.position < m) (map (facts_change act facts) places)
-    (λ c k. let w = map_has (facts_change act facts) c places k in subst (λ (d : FactsChange). d.position < m) w.1.1 (has_from_all (λ i. i < m) w.0 places (all_there r n m places e same) w.1.0)))
+    (λ c k. let w = map_has (facts_change act facts) c places k in
+    subst (λ (d : FactsChange). d.position < m) w.1.1 (has_from_all (λ i. i < m) w.0 places (all_there r n m places e same) w.1.0)))
 
 -- ---- one job
 
@@ -210,4 +212,4 @@ pub one_acted : (act : Act) (s : State) (board : List BoardRow) (job : Job) → 
 one_acted act s board job sound has =
     filter_one number (λ (j : Job). is_permitted act (status_for board j.id)) job 0 (jobs_of s job.pipeline)
     (rising_filter number (λ (j : Job). j.pipeline == job.pipeline) 0 s.jobs sound.jobs)
-    (filter_has (λ (j : Job). j.pipeline == job.pipeline) job s.jobs has (eq-eqb job.pipeline job.pipeline refl))
+    (its_own s job has)

@@ -11,7 +11,9 @@ use Rattle.ci_machine_statuses.specs.Lookups.{AreRecords}
 module _ (s : State) (board : List BoardRow) (p : ℕ) (jobs : List Job) (needs : List Need) (attempts : List Attempt) (rows : List BoardRow) (records : AreRecords s board p jobs needs attempts rows) where
   -- a number of one of the jobs is between the two
   pub inside_of : (j : Job) (n : ℕ) → Has j jobs → (j.id == n) ≡ true → is_within records.first records.last n ≡ true
-  inside_of j n h e = subst (λ m. is_within records.first records.last m ≡ true) (eqb-true j.id n e) (has_from_all (λ (i : Job). is_within records.first records.last i.id ≡ true) j jobs records.inside h)
+  inside_of j n h e =
+      subst (λ m. is_within records.first records.last m ≡ true) (eqb-true j.id n e)
+      (has_from_all (λ (i : Job). is_within records.first records.last i.id ≡ true) j jobs records.inside h)
 
   -- all attempts of one of the jobs
   pub all_attempts : (job : Job) → Has job jobs → filter (λ a. a.job == job.id) attempts ≡ attempts_of s job.id

@@ -91,7 +91,8 @@ module _ (act : Act) (s : State) (board : List BoardRow) (q : Pipeline) (o : Out
   shown_same : jobs_data claims q.project (jobs_of new q.id) o.rows.items ≡ jobs_data claims q.project (jobs_of s q.id) o.rows.items
   shown_same =
       ap (λ js. jobs_data claims q.project js o.rows.items) new_jobs
-      ∙ same_shown claims q.project (of_job s act q.id wide sound) (λ status. keeps s act q.id wide sound (λ i. job_data (printed_status claims q.project i status) i) (λ i a b n. refl)) (jobs_of s q.id) o.rows.items
+      ∙ same_shown claims q.project (of_job s act q.id wide sound)
+      (λ status. keeps s act q.id wide sound (λ i. job_data (printed_status claims q.project i status) i) (λ i a b n. refl)) (jobs_of s q.id) o.rows.items
 
   parts_same : map (λ (j : Job). j.options.part) (jobs_of new q.id) ≡ map (λ (j : Job). j.options.part) (jobs_of s q.id)
   parts_same = ap (map (λ (j : Job). j.options.part)) new_jobs ∙ all_keep s act q.id wide sound (λ j. j.options.part) (λ i a b n. refl) (jobs_of s q.id)

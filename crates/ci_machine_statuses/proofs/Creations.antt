@@ -24,10 +24,7 @@ module _ (s : State) (new : NewPipeline) (given : Given) (now : ℕ) (text : Lis
   rise = subst (λ n. Rising number n its.jobs) (let e : s.next.job + 0 ≡ s.next.job = omega arith in e) (new_rise s.next.pipeline s.next.job 0 laid.plan.jobs)
 
   -- each need is of two of its jobs
-  abbrev IsOfTwo : Need → Type 0
-  IsOfTwo w = (p : ℕ × ℕ) × (Has p laid.plan.pairs × (w ≡ need_of s.next.job p))
-
-  of_two : (w : Need) → Has w its.needs → IsOfTwo w
+  of_two : (w : Need) → Has w its.needs → (p : ℕ × ℕ) × (Has p laid.plan.pairs × (w ≡ need_of s.next.job p))
   of_two w h = ⊎_elim (λ e. absurd e) (λ q. q) (needs_are s.next.job laid.plan.pairs [] w h)
 
   need_behind : (w : Need) → Has w its.needs → s.next.job ≤ w.job

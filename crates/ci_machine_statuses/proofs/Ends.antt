@@ -17,11 +17,12 @@ use Rattle.ci_machine_statuses.proofs.Joint.{apart, rows_same, settled}
 
 -- the rows of a board that was loaded are right
 pub loaded_right : (s : State) (board : List BoardRow) (p : ℕ) (b : BoardState) → AreBoard s board → IsBoardOf s board p b → AreRows b.graph b.facts b.rows
-loaded_right s board p b are is = rows_same refl is.its_facts is.its_rows (same_graph (graph_of s p) b.graph is.parts is.predecessors (facts_of s p) (rows_of s board p) (are.each p))
+loaded_right s board p b are is =
+    rows_same refl is.its_facts is.its_rows (same_graph (graph_of s p) b.graph is.parts is.predecessors (facts_of s p) (rows_of s board p) (are.each p))
 
 -- Where a loaded board got new facts, which are those of the state t, it is settled to that.
-pub settled_by : (s t : State) (board : List BoardRow) (p : ℕ) → Sound s → AreBoard s board → IsWithin s t p → (jobs : List Job) (b : BoardState) (changes : List FactsChange) (v : Settled)
-    → jobs ≡ jobs_of s p → IsBoardOf s board p b → replaced changes b.facts ≡ facts_of t p
+pub settled_by : (s t : State) (board : List BoardRow) (p : ℕ) → Sound s → AreBoard s board → IsWithin s t p
+    → (jobs : List Job) (b : BoardState) (changes : List FactsChange) (v : Settled) → jobs ≡ jobs_of s p → IsBoardOf s board p b → replaced changes b.facts ≡ facts_of t p
     → (AreRows b.graph b.facts b.rows → v.facts.items ≡ replaced changes b.facts)
     → length v.rows.items ≡ length b.rows → (AreRows b.graph b.facts b.rows → AreRows b.graph (replaced changes b.facts) v.rows.items)
     → v.changed.items ≡ changed_rows (map (λ j. j.id) jobs) b.rows v.rows.items → IsSettled s t board p v
@@ -57,11 +58,13 @@ module _ (s : State) (board : List BoardRow) (p : ℕ) (sound : Sound s) (are : 
     numbers = refl;
     its_numbers = λ q. refl;
     graphs = λ q. refl;
-    facts = λ q d. map_same (facts_in t) (facts_in s) (jobs_of s q) (λ i h. other i (λ e. apart s p q x.job sound d its (subst (λ n. Has n (numbers_of s q)) e (has_map number i (jobs_of s q) h))));
+    facts = λ q d. map_same (facts_in t) (facts_in s) (jobs_of s q)
+        (λ i h. other i (λ e. apart s p q x.job sound d its (subst (λ n. Has n (numbers_of s q)) e (has_map number i (jobs_of s q) h))));
   }
 
   -- a change of the facts of the job at this place
-  pub ends : (jobs : List Job) (b : BoardState) (change : FactsChange) (v : Settled) → jobs ≡ jobs_of s p → change.position < length jobs → slice_index_or (map (λ j. j.id) jobs) change.position 0 ≡ x.job
+  pub ends : (jobs : List Job) (b : BoardState) (change : FactsChange) (v : Settled)
+      → jobs ≡ jobs_of s p → change.position < length jobs → slice_index_or (map (λ j. j.id) jobs) change.position 0 ≡ x.job
       → IsBoardOf s board p b → change.facts ≡ record (facts_at b.facts change.position) { last = Some x.state }
       → (AreRows b.graph b.facts b.rows → v.facts.items ≡ replaced (change ∷ []) b.facts)
       → length v.rows.items ≡ length b.rows → (AreRows b.graph b.facts b.rows → AreRows b.graph (replaced (change ∷ []) b.facts) v.rows.items)
@@ -73,7 +76,8 @@ module _ (s : State) (board : List BoardRow) (p : ℕ) (sound : Sound s) (are : 
       let its : Has x.job (numbers_of s p)
       = subst (λ n. Has n (numbers_of s p)) here (is_there (numbers_of s p) pos (subst (λ n. pos < n) (sym (length-map (jobs_of s p) number)) inside)) in
       let facts_here : facts_of t p ≡ slice_set (facts_of s p) pos (ended x.state (facts_at (facts_of s p) pos))
-      = one_other number no_facts 0 (jobs_of s p) (facts_in t) (facts_in s) (ended x.state) x.job pos (rising_filter number (λ (i : Job). i.pipeline == p) 0 s.jobs sound.jobs) inside here
+      = one_other number no_facts 0 (jobs_of s p) (facts_in t) (facts_in s) (ended x.state) x.job pos
+      (rising_filter number (λ (i : Job). i.pipeline == p) 0 s.jobs sound.jobs) inside here
       (λ i h d. other i d)
       (λ i h e. ended_its s t sound.attempts a x there_is (sym live.2) (sym live.3) refl i (λ c m n. sound.is_last a c there_is m live.4 n) (e ∙ sym live.3)) in
       settled_by s t board p sound are (within its) jobs b (change ∷ []) v same is

@@ -37,6 +37,9 @@ other_pipeline s sound i j h k d e = d (ap (λ (w : Job). w.pipeline) (one_at nu
 pub in_pipeline : (s : State) (p : ℕ) (j : Job) → Has j (jobs_of s p) → Has j s.jobs × (j.pipeline ≡ p)
 in_pipeline s p j h = let w = has_filter (λ (i : Job). i.pipeline == p) j s.jobs h in (w.0, eqb-true j.pipeline p w.1)
 
+pub its_own : (s : State) (j : Job) → Has j s.jobs → Has j (jobs_of s j.pipeline)
+its_own s j h = filter_has (λ (i : Job). i.pipeline == j.pipeline) j s.jobs h (eq-eqb j.pipeline j.pipeline refl)
+
 -- ---- a job's facts with these attempts of it
 
 abbrev pub tally_from : List Attempt → Tally
@@ -49,7 +52,8 @@ abbrev pub stands : Option Attempt → Option AttemptState
 stands = option_map (λ a. a.state)
 
 -- what holds of each changed record and is handed on holds of the last
-last_related : {A : Type 0} (f : A → A) (R : Option A → Option A → Type 0) (u v : Option A) (xs : List A) → ((x : A) → Has x xs → R (Some x) (Some (f x))) → R u v → R (last_or u xs) (last_or v (map f xs))
+last_related : {A : Type 0} (f : A → A) (R : Option A → Option A → Type 0) (u v : Option A) (xs : List A)
+    → ((x : A) → Has x xs → R (Some x) (Some (f x))) → R u v → R (last_or u xs) (last_or v (map f xs))
 last_related f R u v [] h q = q
 last_related f R u v (x ∷ xs) h q = last_related f R (Some x) (Some (f x)) xs (λ y k. h y (inr k)) (h x (inl refl))
 
@@ -98,7 +102,8 @@ module _ (s t : State) (sound : Sound s) (x : Attempt) (is_new : x.id ≡ s.next
   pub started_its : (j : Job) → Has j s.jobs → j.id ≡ x.job → facts_in t j ≡ started (facts_in s j) x.state
   started_its j h e =
       let count : length (attempts_of s j.id) + 1 - j.set_aside ≡ length (attempts_of s j.id) - j.set_aside + 1 = omega (arith, sound.aside j h) in
-      appended j ∙ (ap (λ (y : Tally). facts_by y j) (its_tally s.attempts x j.id e) ∙ (λ i. record { last = Some x.state; attempts = count i; cancelled = j.cancelled; played = j.played }))
+      appended j
+      ∙ (ap (λ (y : Tally). facts_by y j) (its_tally s.attempts x j.id e) ∙ (λ i. record { last = Some x.state; attempts = count i; cancelled = j.cancelled; played = j.played }))
 
 -- ---- an attempt in another state
 
@@ -119,7 +124,8 @@ module _ (s t : State) (rise : Rising (λ b. b.id) 0 s.attempts) (a x : Attempt)
   swapped j =
       ap (λ (l : List Attempt). facts_with (filter (λ b. b.job == j.id) l) j) (puts ∙ put_replace attempt_id a x 0 s.attempts rise has (sym its_id))
       ∙ ap (λ (l : List Attempt). facts_with l j) (filter-map (λ (b : Attempt). b.job == j.id) now s.attempts
-      (λ b h. cond_both (b.id == x.id) x b (λ (c : Attempt). (c.job == j.id) ≡ (b.job == j.id)) (λ e. ap (λ n. n == j.id) (its_job ∙ ap (λ (c : Attempt). c.job) (is_a b h e))) (λ e. refl)))
+      (λ b h. cond_both (b.id == x.id) x b (λ (c : Attempt). (c.job == j.id) ≡ (b.job == j.id))
+      (λ e. ap (λ n. n == j.id) (its_job ∙ ap (λ (c : Attempt). c.job) (is_a b h e))) (λ e. refl)))
 
   its : (j : Job) (b : Attempt) → Has b (attempts_of s j.id) → Has b s.attempts × (b.job ≡ j.id)
   its j b h = let w = has_filter (λ (c : Attempt). c.job == j.id) b s.attempts h in (w.0, eqb-true b.job j.id w.1)
@@ -135,10 +141,12 @@ module _ (s t : State) (rise : Rising (λ b. b.id) 0 s.attempts) (a x : Attempt)
   ended_its j last e =
       let l = attempts_of s j.id in
       let is_last : last_or None l ≡ Some a
-      = last_greatest attempt_id a None 0 l (rising_filter attempt_id (λ b. b.job == j.id) 0 s.attempts rise) (filter_has (λ b. b.job == j.id) a s.attempts has (eq-eqb a.job j.id (sym e)))
+      = last_greatest attempt_id a None 0 l (rising_filter attempt_id (λ b. b.job == j.id) 0 s.attempts rise)
+      (filter_has (λ b. b.job == j.id) a s.attempts has (eq-eqb a.job j.id (sym e)))
       (λ b h. let w = its j b h in last b w.0 (sym e ∙ sym w.1)) in
       let ends : stands (last_or None (map now l)) ≡ Some x.state
-      = ap stands (last_related now (λ u v. v ≡ option_map now u) None None l (λ b h. refl) refl ∙ (ap (option_map now) is_last ∙ ap (λ (b : Attempt). Some b) (cond-true (a.id == x.id) x a (eq-eqb a.id x.id (sym its_id))))) in
+      = ap stands (last_related now (λ u v. v ≡ option_map now u) None None l (λ b h. refl) refl
+      ∙ (ap (option_map now) is_last ∙ ap (λ (b : Attempt). Some b) (cond-true (a.id == x.id) x a (eq-eqb a.id x.id (sym its_id))))) in
       swapped j ∙ (λ i. record { last = ends i; attempts = length-map l now i - j.set_aside; cancelled = j.cancelled; played = j.played })
 
   -- where x stands as a does, no facts change

@@ -1,19 +1,19 @@
 -- A grant: the job's own row becomes running, and no other row moves.
-use Rattle.std.proofs.Common.{◌≡◌, ℕ, ◌<◌, true, ◌==◌, List, length, slice_index_or, slice_set, refl, sym, ap, subst, ◌∙◌, arith, eq-eqb}
+use Rattle.std.proofs.Common.{◌≡◌, ℕ, ◌<◌, true, ◌==◌, List, length, slice_index_or, slice_set, refl, sym, ap, subst, ◌∙◌, arith}
 use Rattle.std.proofs.lemmas.Bool.{false≢true}
 use Rattle.std.proofs.lemmas.List.{get_or-map, length-map, map-id}
 use Rattle.ci_machine_steps.specs.Prelude.{Live, is_live_state, Row, Status, is_status, AreRows, facts_at, no_facts, no_row, Attempt, Job, BoardRow, Record, Counter, State}
 use Rattle.ci_machine_steps.specs.Prelude.{applied, put, row_cmp, numbered, jobs_of, numbers_of, graph_of, facts_in, facts_of, rows_of, row_for, AreBoard, is_pending}
 use Rattle.ci_board.specs.Prelude.{row_at}
 use Rattle.ci_board.proofs.Started.{started_rows}
-use Rattle.ci_machine.proofs.Keyed.{Has, rising_filter, has_map, filter_has}
+use Rattle.ci_machine.proofs.Keyed.{Has, rising_filter, has_map}
 use Rattle.ci_machine_steps.proofs.Sound.{Sound}
 use Rattle.ci_machine_statuses.specs.Changes.{started_row}
-use Rattle.ci_machine_statuses.proofs.Puts.{number, map_same, row_put, row_other}
+use Rattle.ci_machine_statuses.proofs.Puts.{number, row_put, row_other}
 use Rattle.ci_machine_statuses.proofs.RowPuts.{put_keys}
 use Rattle.ci_machine_statuses.proofs.Positions.{place_of_has}
-use Rattle.ci_machine_statuses.proofs.Facts.{one_other, in_pipeline, other_pipeline, started, started_other, started_its}
-use Rattle.ci_machine_statuses.proofs.Joint.{numbers_rise, apart, board_rises, rows_same, IsUnmoved, right_again}
+use Rattle.ci_machine_statuses.proofs.Facts.{its_own, one_other, in_pipeline, other_pipeline, started, started_other, started_its}
+use Rattle.ci_machine_statuses.proofs.Joint.{unmoved_from, numbers_rise, apart, board_rises, rows_same, IsUnmoved, right_again}
 
 -- a status that is told to be pending is
 pub pending_is : (s : Status) → is_status s Status.Pending ≡ true → s ≡ Status.Pending
@@ -32,7 +32,7 @@ module _ (s : State) (board : List BoardRow) (j : Job) (x : Attempt) (sound : So
   after = put row_cmp its_row board
 
   numbered_here : Has j.id (numbers_of s j.pipeline)
-  numbered_here = has_map number j (jobs_of s j.pipeline) (filter_has (λ (i : Job). i.pipeline == j.pipeline) j s.jobs has (eq-eqb j.pipeline j.pipeline refl))
+  numbered_here = has_map number j (jobs_of s j.pipeline) (its_own s j has)
 
   -- the job stands at this place of its pipeline
   module _ (pos : ℕ) (l : pos < length (numbers_of s j.pipeline)) (at : slice_index_or (numbers_of s j.pipeline) pos 0 ≡ j.id) where
@@ -67,14 +67,11 @@ module _ (s : State) (board : List BoardRow) (j : Job) (x : Attempt) (sound : So
         (ap (λ (r : Row). r.status) its ∙ pending_is (row_for board j.id).status pending) (ap is_live_state live) (are.each p))
 
   pub elsewhere : (q : ℕ) → (j.pipeline ≡ q → ⊥) → IsUnmoved s t board after q
-  elsewhere q d = record {
-    graph = refl;
-    facts = map_same (facts_in t) (facts_in s) (jobs_of s q)
-        (λ i h. let w = in_pipeline s q i h in
-        started_other s t sound x at_next refl i (λ e. other_pipeline s sound j i has w.0 (λ z. d (z ∙ w.1)) (sym (e ∙ its_job))));
-    rows = map_same (row_for after) (row_for board) (numbers_of s q)
-        (λ n h. row_other its_row n board (λ e. apart s j.pipeline q n sound d (subst (λ m. Has m (numbers_of s j.pipeline)) (sym e) numbered_here) h));
-  }
+  elsewhere q d =
+      unmoved_from s t board after q refl refl
+      (λ i h. let w = in_pipeline s q i h in
+      started_other s t sound x at_next refl i (λ e. other_pipeline s sound j i has w.0 (λ z. d (z ∙ w.1)) (sym (e ∙ its_job))))
+      (λ n h. row_other its_row n board (λ e. apart s j.pipeline q n sound d (subst (λ m. Has m (numbers_of s j.pipeline)) (sym e) numbered_here) h))
 
   pub granted : AreBoard t after
   granted =

@@ -7,7 +7,7 @@ use Rattle.ci_machine_steps.specs.Prelude.{AreIndexes}
 use Rattle.ci_machine.proofs.Keyed.{Has, has_filter, has_map, map_has}
 use Rattle.ci_machine_steps.proofs.Sound.{Sound}
 use Rattle.ci_machine_statuses.specs.declared.act.Act.{Act}
-use Rattle.ci_machine_statuses.specs.declared.act.Act.TheVariants.{Play, Retry, Cancel}
+use Rattle.ci_machine_statuses.specs.declared.act.Act.TheVariants.{Cancel}
 use Rattle.ci_machine_statuses.specs.declared.outcome.Outcome.{Outcome}
 use Rattle.ci_machine_statuses.specs.Acts.{act_changes, is_acted_on, acted_jobs, acted_state, IsOutcome}
 use Rattle.ci_machine_statuses.specs.Changes.{IsWithin}
@@ -20,9 +20,8 @@ use Rattle.ci_machine_statuses.proofs.Holding.{Ends}
 use Rattle.ci_machine_statuses.proofs.HeldChanged.{indexed_again}
 
 pub unleased_among : (act : Act) (jobs : List Job) (j : Job) → Has j (unleased act jobs) → Has j jobs
-unleased_among Play jobs j h = absurd h
-unleased_among Retry jobs j h = absurd h
 unleased_among Cancel jobs j h = h
+unleased_among _ jobs j h = absurd h
 
 module _ (s : State) (act : Act) (n : ℕ) (test : Job → Bool) (sound : Sound s) where
   abbrev t : State

@@ -14,7 +14,8 @@ use Rattle.ci_machine_statuses.proofs.Holding.{rows_stay}
 use Rattle.ci_machine_statuses.proofs.HeldOpening.{as_row, of_row, same_open, passing, turned_rows, all_turned}
 
 -- a pipeline behind all others comes last
-comes_last : (f : Pipeline → Bool) (p : Pipeline) (ps : List Pipeline) (b : Bool) → ((q : Pipeline) → Has q ps → q.id < p.id) → f p ≡ b → turned_rows p.id false b (passing f ps) ≡ passing f (ps ++ p ∷ [])
+comes_last : (f : Pipeline → Bool) (p : Pipeline) (ps : List Pipeline) (b : Bool) → ((q : Pipeline) → Has q ps → q.id < p.id) → f p ≡ b
+    → turned_rows p.id false b (passing f ps) ≡ passing f (ps ++ p ∷ [])
 comes_last f p ps true below e =
     put_last of_row (as_row p) (passing f ps)
     (λ u h. let w = map_has as_row u (filter f ps) h in subst (λ (x : Unfinished). x.pipeline < p.id) w.1.1 (below w.0 (has_filter f w.0 ps w.1.0).0))

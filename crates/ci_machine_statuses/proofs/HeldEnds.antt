@@ -1,6 +1,6 @@
 -- The end of an attempt: its group is free, and its pipeline may be finished.
 use Rattle.std.proofs.Common.{◌≡◌, Bool, true, false, ◌==◌, ◌||◌, ◌&&◌, List, [], ◌∷◌, Some, refl, sym, ap, subst, ◌∙◌, ⊎_elim, eqb-true, eq-eqb}
-use Rattle.std.proofs.lemmas.Bool.{cases_Bool, both_ways, and_parts}
+use Rattle.std.proofs.lemmas.Bool.{cases_Bool, both_ways, false≢true, and_parts, or_cases}
 use Rattle.ci_machine_steps.specs.Prelude.{Status, Attempt, BoardRow, Job, Need, Pipeline, Record, Put, State, attempt_cmp, Kept, written, jobs_of, numbers_of, AreBoard}
 use Rattle.ci_machine_steps.specs.Prelude.{status_of_jobs, is_live, is_lease_on, with_status, last_attempt, AreIndexes}
 use Rattle.ci_machine.proofs.Keyed.{Has, filter_has, has_map, has_put_other, put_has, one_at, different, unequal, has_from_contains}
@@ -14,10 +14,6 @@ use Rattle.ci_machine_statuses.specs.HolderChanges.{of_pipeline}
 use Rattle.ci_machine_statuses.proofs.Holding.{Ends}
 use Rattle.ci_machine_statuses.proofs.HeldChanged.{indexed_again}
 use Rattle.ci_machine_statuses.proofs.Puts.{number, attempt_id}
-
-either_false : (b : Bool) → (b || false) ≡ true → b ≡ true
-either_false true e = refl
-either_false false e = e
 
 module _ (k : Kept) (p : Pipeline) (job : Job) (x : Attempt) (sound : Sound k.state) (are : AreBoard k.state k.board) (has : Has p k.state.pipelines) (there : Has job k.state.jobs) (inside : job.pipeline ≡ p.id)
     (its_job : x.job ≡ job.id) (live : HasLive k.state x) (over : is_live x ≡ false) where
@@ -40,7 +36,7 @@ module _ (k : Kept) (p : Pipeline) (job : Job) (x : Attempt) (sound : Sound k.st
   the_lease : (b : Attempt) → Has b s.attempts → gone b ≡ true → b ≡ a
   the_lease b h e =
       let w = and_parts (is_live b) ((job.id == b.job) || false) e in
-      let same : b.job ≡ a.job = sym (eqb-true job.id b.job (either_false (job.id == b.job) w.1)) ∙ (sym its_job ∙ sym live.3) in
+      let same : b.job ≡ a.job = sym (eqb-true job.id b.job (⊎_elim (λ q. q) (λ q. absurd (false≢true q)) (or_cases (job.id == b.job) false w.1))) ∙ (sym its_job ∙ sym live.3) in
       let both : Some b ≡ Some a = sym (sound.live_last b h w.0) ∙ (ap (λ n. last_attempt s n) same ∙ sound.live_last a a_has live.4) in
       cc
 

@@ -1,6 +1,6 @@
 -- A grant: its group is held, and its pipeline isn't finished, as before.
 use Rattle.std.proofs.Common.{◌≡◌, ◌⊎◌, ℕ, ◌<◌, true, ◌==◌, List, [], ◌∷◌, length, map, filter, Option, Some, None, option_map, refl, sym, ap, subst, ◌∙◌, inl, inr, ⊎_elim, arith}
-use Rattle.std.proofs.Common.{eqb-true, eq-eqb}
+use Rattle.std.proofs.Common.{eqb-true}
 use Rattle.std.proofs.lemmas.Bool.{cond_both, eqb-false}
 use Rattle.std.proofs.lemmas.List.{get_or-map, length-map}
 use Rattle.ci_machine_steps.specs.Prelude.{Live, is_live_state, Facts, Row, Status, is_status, no_row, statuses, some_job, has_status, pipeline_status, Attempt, Holder, Job}
@@ -10,7 +10,7 @@ use Rattle.ci_machine_steps.specs.Prelude.{holds_group, groups_in, is_open_in, A
 use Rattle.ci_machine.specs.Prelude.{Part}
 use Rattle.ci_board.specs.Prelude.{row_at}
 use Rattle.ci_machine.proofs.Claims.{free_not_held}
-use Rattle.ci_machine.proofs.Keyed.{Has, find_has, filter_has, has_map, has_put, put_has, unequal}
+use Rattle.ci_machine.proofs.Keyed.{Has, find_has, has_map, has_put, put_has, unequal}
 use Rattle.ci_machine_steps.proofs.Finished.{some_is, running_open}
 use Rattle.ci_machine_steps.proofs.Sound.{Sound}
 use Rattle.ci_machine_statuses.specs.Changes.{started_row}
@@ -20,15 +20,15 @@ use Rattle.ci_machine_statuses.proofs.Grants.{elsewhere, pending_is}
 use Rattle.ci_machine_statuses.proofs.HeldRows.{HoldsMore, more_rows}
 use Rattle.ci_machine_statuses.proofs.Holding.{in_holders, of_holders}
 use Rattle.ci_machine_statuses.proofs.HeldOpening.{as_row, same_open}
+use Rattle.ci_machine_statuses.proofs.Facts.{its_own}
 
 -- ---- a pending or running job leaves its pipeline unfinished
 
-module _ (parts : List Part) (facts : List Facts) (a : ℕ → Status) where
-  pending_open : some_job (length parts) (has_status a Status.Pending) ≡ true → is_unfinished (pipeline_status parts facts a) ≡ true
-  pending_open e =
-      cond_both (some_job (length parts) (has_status a Status.Running)) Status.Running _ (λ x. is_unfinished x ≡ true)
-      (λ _. refl)
-      (λ _. rw e (cond_both _ Status.Running Status.Pending (λ x. is_unfinished x ≡ true) (λ _. refl) (λ _. refl)))
+pending_open : (parts : List Part) (facts : List Facts) (a : ℕ → Status) → some_job (length parts) (has_status a Status.Pending) ≡ true
+    → is_unfinished (pipeline_status parts facts a) ≡ true
+pending_open parts facts a e =
+    cond_both (some_job (length parts) (has_status a Status.Running)) Status.Running _ (λ x. is_unfinished x ≡ true) (λ _. refl)
+    (λ _. rw e (cond_both _ Status.Running Status.Pending (λ x. is_unfinished x ≡ true) (λ _. refl) (λ _. refl)))
 
 open_at : (s : State) (board : List BoardRow) (q : Pipeline) (n : ℕ) → Has n (numbers_of s q.id) → (row_for board n).status ≡ Status.Pending ⊎ ((row_for board n).status ≡ Status.Running) → is_open_in s board q ≡ true
 open_at s board q n h way =
@@ -91,13 +91,10 @@ module _ (k : Kept) (j : Job) (x : Attempt) (sound : Sound k.state) (are : AreBo
         (has_put attempt_cmp x w.attempt s.attempts w.has);
   }
 
-  numbered_here : Has j.id (numbers_of s j.pipeline)
-  numbered_here = has_map number j (jobs_of s j.pipeline) (filter_has (λ (i : Job). i.pipeline == j.pipeline) j s.jobs has (eq-eqb j.pipeline j.pipeline refl))
-
   same : (q : Pipeline) → is_open_in t after q ≡ is_open_in s k.board q
   same q =
       cond_both (j.pipeline == q.id) 0 0 (λ (_ : ℕ). is_open_in t after q ≡ is_open_in s k.board q)
-      (λ e. let here = subst (λ n. Has j.id (numbers_of s n)) (eqb-true j.pipeline q.id e) numbered_here in
+      (λ e. let here = subst (λ n. Has j.id (numbers_of s n)) (eqb-true j.pipeline q.id e) (has_map number j (jobs_of s j.pipeline) (its_own s j has)) in
       open_at t after q j.id here (inr (ap (λ (r : Row). r.status) (row_put (started_row k.board j.id) k.board)))
       ∙ sym (open_at s k.board q j.id here (inl (pending_is (row_for k.board j.id).status pending))))
       (λ e. same_open s t k.board after q (elsewhere s k.board j x sound are has pending at_next its_job live q.id (eqb-false j.pipeline q.id e)))

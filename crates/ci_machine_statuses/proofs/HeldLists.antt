@@ -2,6 +2,8 @@
 use Rattle.std.proofs.Common.{◌≡◌, ◌+◌, Bool, true, false, ◌||◌, List, [], ◌∷◌, ◌++◌, map, find, flat_map, Some, option_map, Ordering, Less, Equal, refl, sym, ap, subst}
 use Rattle.std.proofs.Common.{◌∙◌, inl, inr, ⊎_elim}
 use Rattle.std.specs.List.{list_any}
+use Rattle.std.specs.Option.{option_or}
+use Rattle.std.proofs.lemmas.List.Folds.{find-append}
 use Rattle.std.specs.List.Sorted.{IsStrictlySortedBy}
 use Rattle.std.proofs.lemmas.Bool.{cond_both, cond-true, cond-false, cases_Bool, both_ways, false≢true}
 use Rattle.ci_machine.proofs.Keyed.{Has, all_from_has, has_from_all}
@@ -40,12 +42,7 @@ pub none_any : {A : Type 0} (p : A → Bool) (x : A) (xs : List A) → list_any 
 none_any p x xs e h = ⊎_elim (λ t. absurd (both_ways (list_any p xs) e (has_any p x xs h t))) (λ f. f) (cases_Bool (p x))
 
 pub find_left : {A : Type 0} (p : A → Bool) (x : A) (xs ys : List A) → find p xs ≡ Some x → find p (xs ++ ys) ≡ Some x
-find_left p x [] ys e = absurd (cc)
-find_left p x (z ∷ zs) ys e =
-    cond_both (p z) (Some z) (find p zs) (λ o. o ≡ Some x → find p ((z ∷ zs) ++ ys) ≡ Some x)
-    (λ t q. cond-true (p z) (Some z) (find p (zs ++ ys)) t ∙ q)
-    (λ f q. cond-false (p z) (Some z) (find p (zs ++ ys)) f ∙ find_left p x zs ys q)
-    e
+find_left p x xs ys e = find-append p xs ys ∙ ap (λ o. option_or o (find p ys)) e
 
 pub find_mapped : {A : Type 0} (p : A → Bool) (f : A → A) (xs : List A) → ((x : A) → p (f x) ≡ p x) → find p (map f xs) ≡ option_map f (find p xs)
 find_mapped p f [] same = refl

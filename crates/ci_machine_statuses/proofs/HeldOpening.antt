@@ -44,13 +44,17 @@ all_turned n true true k = refl
 abbrev pub passing : (Pipeline → Bool) → List Pipeline → List Unfinished
 passing f ps = map as_row (filter f ps)
 
+rows_rise : (low : ℕ) (ps : List Pipeline) → Rising pipeline_id low ps → Rising of_row low (map as_row ps)
+rows_rise low ps = rises_like of_row pipeline_id low (map as_row ps) ps (map_twice of_row as_row ps)
+
 -- it is the first
-first_turns : (p : Pipeline) (a b : Bool) (ps : List Pipeline) → Rising pipeline_id (p.id + 1) ps → turned_rows p.id a b (map as_row (cond a (p ∷ ps) ps)) ≡ map as_row (cond b (p ∷ ps) ps)
-first_turns p false true ps r = put_first of_row (as_row p) (p.id + 1) (map as_row ps) (omega arith) (rises_like of_row pipeline_id (p.id + 1) (map as_row ps) ps (map_twice of_row as_row ps) r)
+first_turns : (p : Pipeline) (a b : Bool) (ps : List Pipeline) → Rising pipeline_id (p.id + 1) ps
+    → turned_rows p.id a b (map as_row (cond a (p ∷ ps) ps)) ≡ map as_row (cond b (p ∷ ps) ps)
+first_turns p false true ps r = put_first of_row (as_row p) (p.id + 1) (map as_row ps) (omega arith) (rows_rise (p.id + 1) ps r)
 first_turns p true false ps r =
     cond-false (not (p.id == p.id)) (as_row p ∷ without_open p.id (map as_row ps)) (without_open p.id (map as_row ps)) (ap not (eq-eqb p.id p.id refl))
     ∙ filter_all (λ u. not (u.pipeline == p.id)) (map as_row ps)
-    (λ u h. ap not (ne_eqb u.pipeline p.id (λ e. absurd (omega (arith, rising_from of_row u (p.id + 1) (map as_row ps) (rises_like of_row pipeline_id (p.id + 1) (map as_row ps) ps (map_twice of_row as_row ps) r) h)))))
+    (λ u h. ap not (ne_eqb u.pipeline p.id (λ e. absurd (omega (arith, rising_from of_row u (p.id + 1) (map as_row ps) (rows_rise (p.id + 1) ps r) h)))))
 first_turns p false false ps r = refl
 first_turns p true true ps r = refl
 
@@ -61,8 +65,8 @@ later_turns n true false q us l = cond-true (not (q.id == n)) (as_row q ∷ with
 later_turns n false false q us l = refl
 later_turns n true true q us l = refl
 
-pub turns : (f g : Pipeline → Bool) (p : Pipeline) (low : ℕ) (ps : List Pipeline) → Rising (λ q. q.id) low ps → Has p ps → ((q : Pipeline) → Has q ps → (p.id ≡ q.id → ⊥) → g q ≡ f q)
-    → turned_rows p.id (f p) (g p) (passing f ps) ≡ passing g ps
+pub turns : (f g : Pipeline → Bool) (p : Pipeline) (low : ℕ) (ps : List Pipeline) → Rising (λ q. q.id) low ps → Has p ps
+    → ((q : Pipeline) → Has q ps → (p.id ≡ q.id → ⊥) → g q ≡ f q) → turned_rows p.id (f p) (g p) (passing f ps) ≡ passing g ps
 turns f g p low [] r h others = absurd h
 turns f g p low (q ∷ ps) r h others =
     ⊎_elim

@@ -1,5 +1,5 @@
 -- The rows of held groups, where some are free or one more is held.
-use Rattle.std.proofs.Common.{◌≡◌, ◌⊎◌, ℕ, Bool, true, false, ◌&&◌, ◌==◌, not, List, [], ◌∷◌, map, Contains, Option, Some, None, nat_cmp, is_eq, Ordering, Less, Equal, Greater}
+use Rattle.std.proofs.Common.{◌≡◌, ◌⊎◌, ℕ, true, false, ◌==◌, not, List, [], ◌∷◌, map, Contains, Option, Some, None, nat_cmp, is_eq, Ordering, Less, Equal, Greater}
 use Rattle.std.proofs.Common.{refl, sym, ap, subst, ◌∙◌, inl, inr, ⊎_elim, eqb-true, eq-eqb}
 use Rattle.std.specs.List.{list_any}
 use Rattle.std.specs.Str.{bytes_eq}
@@ -7,7 +7,7 @@ use Rattle.std.specs.Ordering.{ordering_then}
 use Rattle.std.specs.Cmp.{IsTotalOrder, Equal-is}
 use Rattle.std.specs.Cmp.Lexicographic.{slice_cmp}
 use Rattle.std.proofs.lemmas.Cmp.{nat_cmp_total, on_total, then_total, nat_list_cmp_total}
-use Rattle.std.proofs.lemmas.Bool.{cases_Bool, both_ways, false≢true, and_parts}
+use Rattle.std.proofs.lemmas.Bool.{cases_Bool, both_ways, false≢true, and_from, and_parts}
 use Rattle.std.proofs.lemmas.Slice.Eq.{bytes_eq-Decides}
 use Rattle.std.proofs.lemmas.Map.Text.{is_eq-slice_cmp}
 use Rattle.ci_machine_steps.specs.Prelude.{Holder, Hold, State, put, Kept, indexed, indexed_all, holds, is_free, held_claim, group_held, holders, holder_cmp, AreHolders}
@@ -21,9 +21,6 @@ use Rattle.ci_machine_statuses.proofs.Puts.{put_here}
 
 -- ---- keys
 
-both : (a b : Bool) → a ≡ true → b ≡ true → (a && b) ≡ true
-both a b e f = λ i. e i && f i
-
 -- one has the key of another
 pub record IsAlike (g h : Holder) : Type 0 where
   pub project : h.project ≡ g.project
@@ -35,7 +32,7 @@ alike g h e =
     record { project = eqb-true h.project g.project w.0; group = (bytes_eq-Decides h.group g.group).0 w.1 }
 
 pub holds_alike : (g h : Holder) → IsAlike g h → holds g.project g.group h ≡ true
-holds_alike g h w = both (h.project == g.project) (bytes_eq h.group g.group) (eq-eqb h.project g.project w.project) ((bytes_eq-Decides h.group g.group).1 w.group)
+holds_alike g h w = and_from (h.project == g.project) (bytes_eq h.group g.group) (eq-eqb h.project g.project w.project) ((bytes_eq-Decides h.group g.group).1 w.group)
 
 pub holds_own : (h : Holder) → holds h.project h.group h ≡ true
 holds_own h = holds_alike h h (record { project = refl; group = refl })
@@ -55,7 +52,7 @@ then_parts Greater b e = absurd (false≢true e)
 untied : (g h : Holder) → is_eq (holder_cmp h g) ≡ true → holds g.project g.group h ≡ true
 untied g h e =
     let w = then_parts (nat_cmp h.project g.project) (slice_cmp nat_cmp h.group g.group) e in
-    both (h.project == g.project) (bytes_eq h.group g.group) (eq-eqb h.project g.project (same h.project g.project w.0)) (sym (is_eq-slice_cmp h.group g.group) ∙ w.1)
+    and_from (h.project == g.project) (bytes_eq h.group g.group) (eq-eqb h.project g.project (same h.project g.project w.0)) (sym (is_eq-slice_cmp h.group g.group) ∙ w.1)
 
 apart : (g h : Holder) → holds g.project g.group h ≡ false → not (is_eq (holder_cmp h g)) ≡ true
 apart g h e = ⊎_elim (λ q. absurd (both_ways (holds g.project g.group h) e (untied g h q))) (λ q. ap not q) (cases_Bool (is_eq (holder_cmp h g)))

@@ -3,6 +3,7 @@ use Rattle.std.proofs.Common.{◌≡◌, ℕ, ◌==◌, List, length, map, refl,
 use Rattle.std.proofs.lemmas.Bool.{cond_both, eqb-false}
 use Rattle.ci_machine.specs.Prelude.{JobGraph}
 use Rattle.ci_machine_steps.specs.Prelude.{Facts, Row, AreRows, Job, BoardRow, State, put_rows, jobs_of, numbers_of, graph_of, facts_of, rows_of, row_for, AreBoard}
+use Rattle.ci_machine_steps.specs.Prelude.{graph_by, pairs_among, predecessors_by, facts_in}
 use Rattle.ci_machine.proofs.Keyed.{Has, Rising, rising_filter, has_map, map_has}
 use Rattle.ci_machine_steps.proofs.Sound.{Sound}
 use Rattle.ci_machine_statuses.specs.Boards.{changed_rows}
@@ -53,6 +54,15 @@ right_again s t before after p are keys here others = record {
   each = λ q. cond_both (p == q) 0 0 (λ (_ : ℕ). AreRows (graph_of t q) (facts_of t q) (rows_of t after q))
       (λ e. subst (λ x. AreRows (graph_of t x) (facts_of t x) (rows_of t after x)) (eqb-true p q e) here)
       (λ e. let u = others q (eqb-false p q e) in rows_same u.graph u.facts u.rows (are.each q));
+}
+
+-- its jobs, the pairs that their needs are, and the facts and the row of each job are as they were
+pub unmoved_from : (s t : State) (before after : List BoardRow) (q : ℕ) → jobs_of t q ≡ jobs_of s q → pairs_among (numbers_of s q) t.needs ≡ pairs_among (numbers_of s q) s.needs
+    → ((j : Job) → Has j (jobs_of s q) → facts_in t j ≡ facts_in s j) → ((n : ℕ) → Has n (numbers_of s q) → row_for after n ≡ row_for before n) → IsUnmoved s t before after q
+unmoved_from s t before after q jobs pairs facts rows = record {
+  graph = ap (λ (js : List Job). graph_by js t.needs) jobs ∙ (λ i. record (graph_of s q) { predecessors = predecessors_by (pairs i) (length (jobs_of s q)) });
+  facts = ap (map (facts_in t)) jobs ∙ map_same (facts_in t) (facts_in s) (jobs_of s q) facts;
+  rows = ap (λ (js : List Job). map (row_for after) (map number js)) jobs ∙ map_same (row_for after) (row_for before) (numbers_of s q) rows;
 }
 
 -- nothing changes

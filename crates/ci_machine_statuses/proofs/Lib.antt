@@ -5,10 +5,8 @@ pub mod Facts
 pub mod ActFacts
 pub mod Tallies
 pub mod Found
-pub mod Graphs
 pub mod Joint
 pub mod Loaded
-pub mod Settled
 pub mod Ends
 pub mod ActPlaces
 pub mod Lines
@@ -24,7 +22,6 @@ pub mod HeldLists
 pub mod HeldRows
 pub mod Holding
 pub mod HeldOpening
-pub mod HeldStays
 pub mod HeldGrants
 pub mod Pruning
 pub mod HeldChanged

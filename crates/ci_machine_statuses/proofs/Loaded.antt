@@ -113,7 +113,9 @@ module _ (s : State) (kept : List BoardRow) (p : ℕ) (jobs : List Job) (needs :
   its_attempts = all_attempts s kept p jobs needs attempts rows records
 
   pub all_facts : map (λ j. facts_by (tally_of attempts j.id) j) jobs ≡ facts_of s p
-  all_facts = map_same (λ j. facts_by (tally_of attempts j.id) j) (facts_in s) jobs (λ j h. ap (λ (l : List Attempt). facts_with l j) (its_attempts j h)) ∙ ap (map (facts_in s)) records.are_jobs
+  all_facts =
+      map_same (λ j. facts_by (tally_of attempts j.id) j) (facts_in s) jobs (λ j h. ap (λ (l : List Attempt). facts_with l j) (its_attempts j h))
+      ∙ ap (map (facts_in s)) records.are_jobs
 
   one_row : (n : ℕ) → Has n (map (λ j. j.id) jobs) → row_for rows n ≡ row_for kept n
   one_row n h =

@@ -16,7 +16,7 @@ use Rattle.ci_machine_statuses.proofs.Puts.{number, job_of, cons_same, map_same,
 use Rattle.ci_machine_statuses.proofs.RowPuts.{rises_like, others_stay, puts_behind, its_row}
 use Rattle.ci_machine_statuses.proofs.Positions.{not_among}
 use Rattle.ci_machine_statuses.proofs.Facts.{facts_with}
-use Rattle.ci_machine_statuses.proofs.Joint.{board_rises, number_there, rows_same, IsUnmoved, right_again}
+use Rattle.ci_machine_statuses.proofs.Joint.{unmoved_from, board_rises, number_there, rows_same, IsUnmoved, right_again}
 
 -- numbers from low on rise from there
 rises_from : {A : Type 0} (id : A → ℕ) (low : ℕ) (xs : List A) → Rising id 0 xs → ((x : A) → Has x xs → low ≤ id x) → Rising id low xs
@@ -62,7 +62,9 @@ module _ (s t : State) (board : List BoardRow) (p : ℕ) (jobs : List Job) (need
       ∙ ap (λ l. l ++ filter (λ (w : Need). is_among (map number jobs) w.job) needs)
       (filter_none (λ (w : Need). is_among (map number jobs) w.job) s.needs
       (λ w h. not_among w.job (map number jobs)
-      (λ m k e. let v = map_has number m jobs k in let z : v.0.id ≡ m = v.1.1 in omega (arith, rising_from number v.0 s.next.job jobs jobs_rise v.1.0, old_job w.job (sound.need_job w h)))))))
+      (λ m k e.
+      let v = map_has number m jobs k in
+      let z : v.0.id ≡ m = v.1.1 in omega (arith, rising_from number v.0 s.next.job jobs jobs_rise v.1.0, old_job w.job (sound.need_job w h)))))))
 
   untried : (j : Job) → Has j jobs → facts_in t j ≡ no_facts
   untried j h =
@@ -120,23 +122,20 @@ module _ (s t : State) (board : List BoardRow) (p : ℕ) (jobs : List Job) (need
           ap (filter (λ (j : Job). j.pipeline == q)) made.all_jobs
           ∙ none_more (λ (j : Job). j.pipeline == q) s.jobs jobs (λ j h. ne_eqb j.pipeline q (λ e. d (sym (has_from_all (λ (k : Job). k.pipeline ≡ p) j jobs made.within h) ∙ e)))
 
-      other_pairs : pairs_of t q ≡ pairs_of s q
+      other_pairs : pairs_among (numbers_of s q) t.needs ≡ pairs_among (numbers_of s q) s.needs
       other_pairs =
-          ap (λ (js : List Job). pairs_among (map number js) t.needs) other_jobs
-          ∙ ap (map (pair_of (numbers_of s q)))
+          ap (map (pair_of (numbers_of s q)))
           (ap (filter (λ (w : Need). is_among (numbers_of s q) w.job)) made.all_needs
           ∙ none_more (λ (w : Need). is_among (numbers_of s q) w.job) s.needs needs
           (λ w h. not_among w.job (numbers_of s q) (λ m k e.
           let v = named_contains number w.job jobs (has_from_all (λ (z : Need). Contains (map number jobs) z.job) w needs made.among h) in
-          let z : v.0.id ≡ w.job = v.1.1 in omega (arith, rising_from number v.0 s.next.job jobs jobs_rise v.1.0, old_job m (map_has number m s.jobs (number_there s q m k))))))
+          let z : v.0.id ≡ w.job = v.1.1 in
+          omega (arith, rising_from number v.0 s.next.job jobs jobs_rise v.1.0, old_job m (map_has number m s.jobs (number_there s q m k))))))
 
       pub unmoved : IsUnmoved s t board after q
-      unmoved = record {
-        graph = λ i. record { parts = map (λ j. j.options.part) (other_jobs i); predecessors = predecessors_by (other_pairs i) (length (other_jobs i)); successors = []; order = []; meter = 0 };
-        facts = ap (map (facts_in t)) other_jobs
-            ∙ map_same (facts_in t) (facts_in s) (jobs_of s q) (λ j h. ap (λ (l : List Attempt). facts_with (filter (λ a. a.job == j.id) l) j) made.same_attempts);
-        rows = ap (λ (js : List Job). map (row_for after) (map number js)) other_jobs ∙ map_same (row_for after) (row_for board) (numbers_of s q) (λ n h. old_number n (number_there s q n h));
-      }
+      unmoved =
+          unmoved_from s t board after q other_jobs other_pairs
+          (λ j h. ap (λ (l : List Attempt). facts_with (filter (λ a. a.job == j.id) l) j) made.same_attempts) (λ n h. old_number n (number_there s q n h))
 
     module _ (b : BoardState) (its : map (λ r. r.row) rows ≡ b.rows) (parts : b.graph.parts ≡ map (λ j. j.options.part) jobs)
         (predecessors : b.graph.predecessors ≡ predecessors_by (pairs_among (map (λ j. j.id) jobs) needs) (length jobs)) (facts : b.facts ≡ replicate (length jobs) no_facts)
@@ -145,5 +144,6 @@ module _ (s t : State) (board : List BoardRow) (p : ℕ) (jobs : List Job) (need
       new_board =
           right_again s t board after p are all_keys
           (rows_same refl (its_facts ∙ sym facts) (its_rows ∙ its)
-          (same_graph b.graph (graph_of t p) (ap (map (λ (j : Job). j.options.part)) its_jobs ∙ sym parts) ((λ i. predecessors_by (its_pairs i) (length (its_jobs i))) ∙ sym predecessors) b.facts b.rows right))
+          (same_graph b.graph (graph_of t p) (ap (map (λ (j : Job). j.options.part)) its_jobs ∙ sym parts)
+          ((λ i. predecessors_by (its_pairs i) (length (its_jobs i))) ∙ sym predecessors) b.facts b.rows right))
           unmoved

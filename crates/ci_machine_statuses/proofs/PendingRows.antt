@@ -1,11 +1,11 @@
 -- The pending jobs by their rows.
-use Rattle.std.proofs.Common.{◌≡◌, ℕ, Bool, ◌==◌, List, [], ◌∷◌, map, filter, Option, Some, None, option_map, refl, sym, ap, subst, ◌∙◌, eq-eqb}
+use Rattle.std.proofs.Common.{◌≡◌, ℕ, Bool, ◌==◌, List, [], ◌∷◌, map, filter, Some, option_map, refl, sym, ap, subst, ◌∙◌, eq-eqb}
 use Rattle.ci_machine_steps.specs.Prelude.{Status, is_status, Row, Job, BoardRow, State, row_for, row_or_none, status_for, AreBoard, is_pending, queued, queued_at, queue, rows_with}
 use Rattle.ci_machine.specs.Prelude.{row_at}
 use Rattle.ci_machine.proofs.Keyed.{Has, find_has, has_filter, filter_same, has_map, map_has}
 use Rattle.ci_machine.proofs.Tests.{has_any}
 use Rattle.ci_machine_steps.proofs.Sound.{Sound}
-use Rattle.ci_machine_statuses.proofs.Puts.{number, job_of, map_same, map_twice, map_filter}
+use Rattle.ci_machine_statuses.proofs.Puts.{cons_same, number, job_of, map_same, map_twice, map_filter}
 use Rattle.ci_machine_statuses.proofs.RowPuts.{its_row}
 use Rattle.ci_machine_statuses.proofs.Joint.{board_rises}
 use Rattle.ci_machine_statuses.proofs.HeldLists.{find_any}
@@ -20,7 +20,8 @@ its_row_found s board j are has =
 
 -- ---- the queue by its rows
 
-pub rows_queue : (s : State) (board : List BoardRow) → Sound s → AreBoard s board → map (λ r. queued_at s r.job) (rows_with Status.Pending board) ≡ map (λ q. Some q) (queue s board)
+pub rows_queue : (s : State) (board : List BoardRow) → Sound s → AreBoard s board
+    → map (λ r. queued_at s r.job) (rows_with Status.Pending board) ≡ map (λ q. Some q) (queue s board)
 rows_queue s board sound are =
     let pends : ℕ → Bool = λ n. is_status (status_for board n) Status.Pending in
     let its : List Job = filter (is_pending board) s.jobs in
@@ -29,19 +30,14 @@ rows_queue s board sound are =
     ∙ (sym (map_twice (queued_at s) job_of (filter (λ r. pends r.job) board))
     ∙ (ap (map (queued_at s)) (map_filter job_of pends board ∙ (ap (filter pends) are.keys ∙ sym (map_filter number pends s.jobs)))
     ∙ (map_twice (queued_at s) number its
-    ∙ (map_same (λ j. queued_at s j.id) (λ j. Some (queued s j)) its (λ j h. ap (option_map (queued s)) (find_has number j 0 s.jobs sound.jobs (has_filter (is_pending board) j s.jobs h).0))
+    ∙ (map_same (λ j. queued_at s j.id) (λ j. Some (queued s j)) its
+    (λ j h. ap (option_map (queued s)) (find_has number j 0 s.jobs sound.jobs (has_filter (is_pending board) j s.jobs h).0))
     ∙ sym (map_twice (λ q. Some q) (queued s) its)))))
 
 -- ---- lists of what is there
 
-abbrev without_some : {A : Type 0} → List (Option A) → List A
-without_some [] = []
-without_some (None ∷ os) = without_some os
-without_some (Some x ∷ os) = x ∷ without_some os
-
-all_some : {A : Type 0} (xs : List A) → without_some (map (λ x. Some x) xs) ≡ xs
-all_some [] = refl
-all_some (x ∷ xs) = ap (λ l. x ∷ l) (all_some xs)
-
 pub same_some : {A : Type 0} (xs ys : List A) → map (λ x. Some x) xs ≡ map (λ x. Some x) ys → xs ≡ ys
-same_some xs ys e = sym (all_some xs) ∙ (ap without_some e ∙ all_some ys)
+same_some [] [] e = refl
+same_some [] (y ∷ ys) e = absurd (cc)
+same_some (x ∷ xs) [] e = absurd (cc)
+same_some (x ∷ xs) (y ∷ ys) e = cons_same (let first : x ≡ y = cc in first) (same_some xs ys (let rest : map (λ z. Some z) xs ≡ map (λ z. Some z) ys = cc in rest))

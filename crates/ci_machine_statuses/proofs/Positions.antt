@@ -80,7 +80,8 @@ place_found xs n (Err i) b a =
     sym (cond-false (is_among xs n) (Some (place_in xs n)) None (not_among n xs (λ m h e.
     let w = place_of_has m xs h in
     let same : slice_index_or xs w.0 0 ≡ n = w.1.1 ∙ e in
-    ⊎_elim (λ k. let less : slice_index_or xs w.0 0 < n = found.1 w.0 k in omega arith) (λ k. let more : n < slice_index_or xs w.0 0 = found.2 w.0 k w.1.0 in omega arith) (cases_lt w.0 i))))
+    ⊎_elim (λ k. let less : slice_index_or xs w.0 0 < n = found.1 w.0 k in omega arith)
+    (λ k. let more : n < slice_index_or xs w.0 0 = found.2 w.0 k w.1.0 in omega arith) (cases_lt w.0 i))))
 
 -- ---- what a place says
 

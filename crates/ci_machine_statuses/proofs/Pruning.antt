@@ -1,10 +1,10 @@
 -- A finished pipeline goes: so do the rows of its jobs, and all else beside the state is right as it is.
-use Rattle.std.proofs.Common.{◌≡◌, ℕ, Bool, true, false, ◌==◌, not, List, [], length, map, filter, Option, Some, None, option_map, ◌-◌, refl, sym, ap, subst, ◌∙◌, arith}
+use Rattle.std.proofs.Common.{◌≡◌, ℕ, Bool, true, false, ◌==◌, not, List, [], map, filter, Option, Some, None, option_map, ◌-◌, refl, sym, ap, subst, ◌∙◌, arith}
 use Rattle.std.proofs.Common.{eqb-true, ne_eqb}
 use Rattle.std.proofs.lemmas.Bool.{both_ways, eqb-false}
 use Rattle.ci_machine.specs.Prelude.{is_among}
 use Rattle.ci_machine_steps.specs.Prelude.{AreRows, Attempt, BoardRow, Job, Need, Pipeline, QueuedJob, State, without_all, jobs_of, numbers_of, graph_by, graph_of}
-use Rattle.ci_machine_steps.specs.Prelude.{pair_of, pairs_among, predecessors_by, facts_in, facts_of, row_for, row_or_none, rows_of, AreBoard, Kept, cleared, written, is_live}
+use Rattle.ci_machine_steps.specs.Prelude.{pair_of, pairs_among, facts_in, facts_of, row_for, row_or_none, rows_of, AreBoard, Kept, cleared, written, is_live}
 use Rattle.ci_machine_steps.specs.Prelude.{job_at, pipeline_at, project_or_none, queued, held_by, is_open_in, unfinished_in, AreIndexes, is_job_among, pipeline_goes}
 use Rattle.ci_machine_steps.specs.Prelude.{without_pipeline}
 use Rattle.ci_machine.proofs.Keyed.{Has, one_at, has_filter, filter_same, has_find, map_has, not_true}
@@ -13,12 +13,12 @@ use Rattle.ci_machine.proofs.Filters.{filter_implied, find_implied, all_gone}
 use Rattle.ci_machine_steps.proofs.Pruned.{among_its, pruned_state, jobs_left, no_jobs, attempts_left, attempt_was, attempt_left}
 use Rattle.ci_machine_steps.proofs.Finished.{not_its, job_stands}
 use Rattle.ci_machine_steps.proofs.Sound.{Sound}
-use Rattle.ci_machine_statuses.proofs.Puts.{map_filter, number, job_of, map_same}
+use Rattle.ci_machine_statuses.proofs.Puts.{map_filter, number, job_of}
 use Rattle.ci_machine_statuses.proofs.Positions.{has_among}
 use Rattle.ci_machine_statuses.proofs.Facts.{facts_with, in_pipeline}
 use Rattle.ci_machine_statuses.proofs.Holding.{rows_stay}
 use Rattle.ci_machine_statuses.proofs.HeldOpening.{as_row, same_open}
-use Rattle.ci_machine_statuses.proofs.Joint.{IsUnmoved, right_again}
+use Rattle.ci_machine_statuses.proofs.Joint.{unmoved_from, IsUnmoved, right_again}
 
 -- ---- the rows
 
@@ -65,23 +65,12 @@ module _ (s : State) (board : List BoardRow) (n : ℕ) (sound : Sound s) (are : 
       ap (map (pair_of (numbers_of s q)))
       (filter_implied (λ (w : Need). is_among (numbers_of s q) w.job) (λ w. is_left w.job) s.needs (λ w k e. ap not (number_left q d w.job (has_among w.job (numbers_of s q) e))))
 
-  graph_left : (q : ℕ) → (q ≡ n → ⊥) → graph_of t q ≡ graph_of s q
-  graph_left q d =
-      ap (λ (js : List Job). graph_by js t.needs) (jobs_left s n sound.jobs sound.attempts q d)
-      ∙ ap (λ (ps : List (ℕ × ℕ)). record { parts = map (λ (j : Job). j.options.part) (jobs_of s q); predecessors = predecessors_by ps (length (jobs_of s q)); successors = []; order = []; meter = 0 })
-      (pairs_left q d)
-
   pub unmoved : (q : ℕ) → (n ≡ q → ⊥) → IsUnmoved s (without_pipeline s n) board (without_all (λ r. r.job) (numbers_of s n) board) q
   unmoved q d =
       let e : q ≡ n → ⊥ = λ z. d (sym z) in
-      let jobs = jobs_left s n sound.jobs sound.attempts q e in
-      record {
-        graph = graph_left q e;
-        facts = ap (map (facts_in t)) jobs
-            ∙ map_same (facts_in t) (facts_in s) (jobs_of s q)
-            (λ j h. let i = in_pipeline s q j h in ap (λ (l : List Attempt). facts_with l j) (attempts_left s n sound.jobs sound.attempts j i.0 (λ z. e (sym i.1 ∙ z))));
-        rows = ap (λ (js : List Job). map (row_for after) (map number js)) jobs ∙ map_same (row_for after) (row_for board) (numbers_of s q) (λ m h. row_left m (number_left q e m h));
-      }
+      unmoved_from s t board after q (jobs_left s n sound.jobs sound.attempts q e) (pairs_left q e)
+      (λ j h. let i = in_pipeline s q j h in ap (λ (l : List Attempt). facts_with l j) (attempts_left s n sound.jobs sound.attempts j i.0 (λ z. e (sym i.1 ∙ z))))
+      (λ m h. row_left m (number_left q e m h))
 
   -- it has no jobs any more
   here : AreRows (graph_of t n) (facts_of t n) (rows_of t after n)

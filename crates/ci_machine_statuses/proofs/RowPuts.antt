@@ -38,7 +38,8 @@ put_keys r board rise h =
     ∙ (map_twice job_of (swap job_of r) board
     ∙ map_same (λ y. (swap job_of r y).job) job_of board (λ y k. cond_both (y.job == r.job) r y (λ (w : BoardRow). w.job ≡ y.job) (λ e. sym (eqb-true y.job r.job e)) (λ e. refl)))
 
-keys_stay : (rows board : List BoardRow) → Rising (λ x. x.job) 0 board → ((r : BoardRow) → Has r rows → Has r.job (map (λ x. x.job) board)) → map (λ x. x.job) (put_rows rows board) ≡ map (λ x. x.job) board
+keys_stay : (rows board : List BoardRow) → Rising (λ x. x.job) 0 board → ((r : BoardRow) → Has r rows → Has r.job (map (λ x. x.job) board))
+    → map (λ x. x.job) (put_rows rows board) ≡ map (λ x. x.job) board
 keys_stay [] board rise h = refl
 keys_stay (r ∷ rows) board rise h =
     let first = put_keys r board rise (h r (inl refl)) in

@@ -22,7 +22,8 @@ few_more (x ∷ ts) (suc i) n t few c zero = let z = few zero in omega (arith, z
 few_more (x ∷ ts) (suc i) n t few c (suc p) = few_more ts i n t (λ q. few (suc q)) c p
 
 -- a step of the loop: the next attempt is one of a job of these numbers, or of none
-next_taken : (numbers : List ℕ) (xs : List Attempt) (i : ℕ) (a : Attempt) → i < length xs → a ≡ slice_index_or xs i a → map (tally_of (take i xs ++ a ∷ [])) numbers ≡ map (tally_of (take (i + 1) xs)) numbers
+next_taken : (numbers : List ℕ) (xs : List Attempt) (i : ℕ) (a : Attempt) → i < length xs → a ≡ slice_index_or xs i a
+    → map (tally_of (take i xs ++ a ∷ [])) numbers ≡ map (tally_of (take (i + 1) xs)) numbers
 next_taken numbers xs i a l at = ap (λ (ys : List Attempt). map (tally_of ys) numbers) (sym (take_more xs i a l ∙ ap (λ (b : Attempt). take i xs ++ b ∷ []) (sym at)))
 
 pub count_step : (numbers : List ℕ) (xs : List Attempt) (i : ℕ) (a : Attempt) (place : ℕ) (ts us : List Tally) → i < length xs → a ≡ slice_index_or xs i a → IsStrictlySortedBy nat_cmp numbers
@@ -33,8 +34,8 @@ count_step numbers xs i a place ts us l at up found before set =
     let w = place_some numbers a.job place r found in
     set
     ∙ (ap (λ (l : List Tally). slice_set l place (record { count = (tally_at l place).count + 1; last = Some a.state })) before
-    ∙ (sym (one_other (λ n. n) no_tally 0 numbers (tally_of (take i xs ++ a ∷ [])) (tally_of (take i xs)) (λ t. record { count = t.count + 1; last = Some a.state }) a.job place r w.0
-    (ap (λ (l : List ℕ). slice_index_or l place 0) (map-id numbers) ∙ w.1) (λ n h d. other_tally (take i xs) a n d) (λ n h q. its_tally (take i xs) a n q))
+    ∙ (sym (one_other (λ n. n) no_tally 0 numbers (tally_of (take i xs ++ a ∷ [])) (tally_of (take i xs)) (λ t. record { count = t.count + 1; last = Some a.state })
+    a.job place r w.0 (ap (λ (l : List ℕ). slice_index_or l place 0) (map-id numbers) ∙ w.1) (λ n h d. other_tally (take i xs) a n d) (λ n h q. its_tally (take i xs) a n q))
     ∙ next_taken numbers xs i a l at))
 
 pub skip_step : (numbers : List ℕ) (xs : List Attempt) (i : ℕ) (a : Attempt) (ts : List Tally) → i < length xs → a ≡ slice_index_or xs i a
