@@ -47,9 +47,6 @@ module _ (s : State) (sound : Sound s) (c : Creation) (it : Created s c) where
       ap (λ (l : List Attempt). flat_map (held_of t) (filter is_live l)) made.same_attempts
       ∙ flat_same (held_of t) (held_of s) (live_attempts s) (λ a h. same_held a (has_filter is_live a s.attempts h).0)
 
-  same_modes : t.modes ≡ s.modes
-  same_modes = ap (λ (w : State). w.modes) (after_creation s.next.job c s)
-
   -- ---- who waits
 
   module _ (board : List BoardRow) (are : AreBoard s board) (rows : List BoardRow) (keys : map (λ r. r.job) rows ≡ map (λ j. j.id) c.jobs) where
@@ -81,5 +78,5 @@ module _ (s : State) (sound : Sound s) (c : Creation) (it : Created s c) where
 
     pub created_claims : claims_in t after n ≡ claims_in s board n
     created_claims =
-        (λ i. map held_claim (same_holders i) ++ map waiting_claim (filter (is_first (same_modes i) n) (waiting t after)))
+        (λ i. map held_claim (same_holders i) ++ map waiting_claim (filter (is_first (ap (λ (w : State). w.modes) (after_creation s.next.job c s) i) n) (waiting t after)))
         ∙ ap (λ (ws : List WaitingJob). map held_claim (holders s) ++ map waiting_claim ws) (ahead s.modes)

@@ -39,9 +39,6 @@ module _ (s : State) (board : List BoardRow) (j : Job) (x : Attempt) (sound : So
     abbrev p : ℕ
     p = j.pipeline
 
-    abbrev ns : List ℕ
-    ns = numbers_of s p
-
     facts_here : facts_of t p ≡ slice_set (facts_of s p) pos (started (facts_at (facts_of s p) pos) x.state)
     facts_here =
         one_other number no_facts 0 (jobs_of s p) (facts_in t) (facts_in s) (λ f. started f x.state) j.id pos
@@ -51,17 +48,17 @@ module _ (s : State) (board : List BoardRow) (j : Job) (x : Attempt) (sound : So
 
     rows_here : rows_of t after p ≡ slice_set (rows_of s board p) pos (record (row_at (rows_of s board p) pos) { status = Status.Running })
     rows_here =
-        one_other (λ n. n) no_row 0 ns (row_for after) (row_for board) (λ r. record r { status = Status.Running }) j.id pos (numbers_rise s p sound) l
-        (ap (λ (m : List ℕ). slice_index_or m pos 0) (map-id ns) ∙ at)
+        one_other (λ n. n) no_row 0 (numbers_of s p) (row_for after) (row_for board) (λ r. record r { status = Status.Running }) j.id pos (numbers_rise s p sound) l
+        (ap (λ (m : List ℕ). slice_index_or m pos 0) (map-id (numbers_of s p)) ∙ at)
         (λ n h d. row_other its_row n board d)
         (λ n h e. ap (row_for after) e ∙ (row_put its_row board ∙ ap (λ (m : ℕ). record (row_for board m) { status = Status.Running }) (sym e)))
 
     here : AreRows (graph_of s p) (facts_of t p) (rows_of t after p)
     here =
         let rows = rows_of s board p in
-        let long : length rows ≡ length ns = length-map ns (row_for board) in
-        let facts_long : length (facts_of s p) ≡ length ns = length-map (jobs_of s p) (facts_in s) ∙ sym (length-map (jobs_of s p) number) in
-        let its : row_at rows pos ≡ row_for board j.id = get_or-map (row_for board) ns pos 0 no_row l ∙ ap (row_for board) at in
+        let long : length rows ≡ length (numbers_of s p) = length-map (numbers_of s p) (row_for board) in
+        let facts_long : length (facts_of s p) ≡ length (numbers_of s p) = length-map (jobs_of s p) (facts_in s) ∙ sym (length-map (jobs_of s p) number) in
+        let its : row_at rows pos ≡ row_for board j.id = get_or-map (row_for board) (numbers_of s p) pos 0 no_row l ∙ ap (row_for board) at in
         rows_same refl facts_here rows_here
         (started_rows (graph_of s p) (facts_of s p) rows pos (started (facts_at (facts_of s p) pos) x.state) (omega arith) (omega arith)
         (ap (λ (r : Row). r.status) its ∙ pending_is (row_for board j.id).status pending) (ap is_live_state live) (are.each p))

@@ -106,9 +106,6 @@ module _ (s : State) (kept : List BoardRow) (p : ℕ) (jobs : List Job) (needs :
       ascend_from_rising (λ (r : BoardRow). r.job) 0 rows
       (subst (Rising (λ r. r.job) 0) (sym records.are_rows) (rising_filter (λ (r : BoardRow). r.job) (λ r. is_within records.first records.last r.job) 0 kept (board_rises s kept sound are)))
 
-  pub its_predecessors : predecessors_by (pairs_among (map (λ j. j.id) jobs) needs) (length jobs) ≡ (graph_of s p).predecessors
-  its_predecessors = pairs_give s p jobs needs sound its_jobs
-
   its_attempts : (j : Job) → Has j jobs → filter (λ a. a.job == j.id) attempts ≡ attempts_of s j.id
   its_attempts = all_attempts s kept p jobs needs attempts rows records
 
@@ -130,7 +127,7 @@ module _ (s : State) (kept : List BoardRow) (p : ℕ) (jobs : List Job) (needs :
   pub is_board_with : (b : BoardState) → IsGraphOf b.graph jobs needs → b.facts ≡ facts_of s p → b.rows ≡ rows_of s kept p → IsBoardOf s kept p b
   is_board_with b of facts its = record {
     parts = of.parts ∙ ap (map (λ (j : Job). j.options.part)) records.are_jobs;
-    predecessors = of.predecessors numbers_ascend ∙ its_predecessors;
+    predecessors = of.predecessors numbers_ascend ∙ pairs_give s p jobs needs sound its_jobs;
     its_facts = facts;
     its_rows = its;
   }

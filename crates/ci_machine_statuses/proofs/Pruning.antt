@@ -4,7 +4,7 @@ use Rattle.std.proofs.Common.{eqb-true, ne_eqb}
 use Rattle.std.proofs.lemmas.Bool.{both_ways, eqb-false}
 use Rattle.ci_machine.specs.Prelude.{is_among}
 use Rattle.ci_machine_steps.specs.Prelude.{AreRows, Attempt, BoardRow, Job, Need, Pipeline, QueuedJob, State, without_all, jobs_of, numbers_of, graph_by, graph_of}
-use Rattle.ci_machine_steps.specs.Prelude.{pair_of, pairs_among, facts_in, facts_of, row_for, row_or_none, rows_of, AreBoard, Kept, cleared, written, is_live}
+use Rattle.ci_machine_steps.specs.Prelude.{pair_of, pairs_among, facts_in, facts_of, row_for, row_or_none, rows_of, AreBoard, Kept, cleared, written}
 use Rattle.ci_machine_steps.specs.Prelude.{job_at, pipeline_at, project_or_none, queued, held_by, is_open_in, unfinished_in, AreIndexes, is_job_among, pipeline_goes}
 use Rattle.ci_machine_steps.specs.Prelude.{without_pipeline}
 use Rattle.ci_machine.proofs.Keyed.{Has, one_at, has_filter, filter_same, has_find, map_has, not_true}
@@ -96,9 +96,6 @@ module _ (k : Kept) (p : Pipeline) (sound : Sound k.state) (are : AreBoard k.sta
   abbrev board : List BoardRow
   board = without_all (λ r. r.job) (numbers_of s n) k.board
 
-  none_live : (a : Attempt) → Has a s.attempts → is_live a ≡ true → is_job_among (jobs_of s n) a.job ≡ false
-  none_live = not_its s k.board p sound are finished
-
   pipeline_found : (j : Job) → (j.pipeline == n) ≡ false → pipeline_at left j.pipeline ≡ pipeline_at s j.pipeline
   pipeline_found j other =
       find_implied (λ (q : Pipeline). q.id == j.pipeline) (λ q. not (q.id == n)) s.pipelines (λ q h e. ap not (ap (λ m. m == n) (eqb-true q.id j.pipeline e) ∙ other))
@@ -127,9 +124,10 @@ module _ (k : Kept) (p : Pipeline) (sound : Sound k.state) (are : AreBoard k.sta
       subst (λ (w : State). AreIndexes (record { state = w; board = board; holders = k.holders; unfinished = k.unfinished })) (sym (pruned_state s n sound.jobs sound.attempts p refl))
       (record {
         held = rows_stay s left k.holders sound.attempts
-            (λ a h live. record { attempt = a; has = attempt_left s n sound.jobs sound.attempts a h (none_live a h live); id = refl; job = refl; live = live })
+            (λ a h live.
+            record { attempt = a; has = attempt_left s n sound.jobs sound.attempts a h (not_its s k.board p sound are finished a h live); id = refl; job = refl; live = live })
             (λ b h live. record { attempt = b; has = (attempt_was s n sound.jobs sound.attempts b h).0; id = refl; job = refl; live = live })
-            (λ a h live. let other = none_live a h live in
+            (λ a h live. let other = not_its s k.board p sound are finished a h live in
             ap (held_by a.id) (ap (option_map (queued left)) (job_stands s k.board p sound are finished a.job other) ∙ same_queued a.job other (job_at s a.job) refl)) indexes.held;
         unfinished = indexes.unfinished ∙ open_left;
       })

@@ -4,9 +4,6 @@ use Rattle.ci_machine_statuses.specs.Lookups.{tally_of}
 use Rattle.ci_machine_statuses.proofs.Puts.{number, map_twice}
 use Rattle.ci_machine_statuses.proofs.load.facts_of.Goals as goal
 
-pub returns-clause-long : goal.returns-clause-long
-returns-clause-long c = c.facts.ensures.long
-
 pub returns-clause-facts : goal.returns-clause-facts
 returns-clause-facts c =
     IfOk-weaker c.facts.result _ _ (λ v all up. all (tally_of c.args.attempts.now)

@@ -23,6 +23,3 @@ returns-clause-right g c =
     whatever_ends _ c.rows_at.result
     (λ before. right_before c.args.board.now.graph c.apply.new.self.graph _ c.apply.new.self.facts c.apply.new.self.rows
     c.in_ok-positions.ensures.graph (c.in_ok-positions.ensures.facts before) (c.in_ok-positions.ensures.rows before))
-
-pub returns-clause-facts : goal.returns-clause-facts
-returns-clause-facts g c = whatever_ends _ c.rows_at.result c.in_ok-positions.ensures.facts
