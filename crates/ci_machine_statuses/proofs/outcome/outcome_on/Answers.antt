@@ -38,9 +38,3 @@ pub returns-clause-places : goal.returns-clause-places
 returns-clause-places g c =
     all_there (is_acted_at c.args.act c.args.only (map (λ j. j.id) c.args.jobs.now) c.in_ok-board.board.rows) (length c.args.jobs.now) (length c.args.jobs.now) c.in_ok-places.places.items
     c.in_ok-places.ensures refl
-
-pub returns-clause-long : goal.returns-clause-long
-returns-clause-long g c = (
-  ap length c.in_ok-facts.ensures ∙ (c.in_ok-changed.ensures.long_facts ∙ (c.size-size.ensures.facts ∙ c.in_ok-board.ensures.long)),
-  ap length c.in_ok-rows.ensures ∙ (c.in_ok-changed.ensures.long ∙ (c.size-size.ensures.rows ∙ c.in_ok-board.ensures.long)),
-)
