@@ -1,7 +1,7 @@
 -- The changes of an event of one pipeline, one after the other: they keep the groups and the unfinished pipelines right.
 use Rattle.std.proofs.Common.{◌≡◌, List, [], ◌∷◌, ◌++◌, map, filter, flat_map, option_to_list, refl, sym, ap, subst, ◌∙◌}
-use Rattle.ci_machine_steps.specs.Prelude.{Facts, Row, Status, Attempt, BoardRow, Holder, Job, Need, Pipeline, IndexChange, State, Kept, put_rows, numbers_of, facts_of, rows_of, AreRowsOf, AreBoard}
-use Rattle.ci_machine_steps.specs.Prelude.{indexed, indexed_all, is_lease_on, is_unfinished, held_of, with_status, status_of_jobs, unfinished_in, AreIndexes}
+use Rattle.ci_machine_steps.specs.Prelude.{Facts, Row, Status, Attempt, BoardRow, Holder, Job, Need, Pipeline, IndexChange, State, Kept, put_rows, numbers_of, facts_of, rows_of}
+use Rattle.ci_machine_steps.specs.Prelude.{AreRowsOf, AreBoard, indexed, indexed_all, is_lease_on, is_unfinished, held_of, with_status, status_of_jobs, unfinished_in, AreIndexes}
 use Rattle.ci_machine.specs.Holders as holders
 use Rattle.ci_machine.proofs.Keyed.{Has, has_filter}
 use Rattle.ci_machine_steps.proofs.Sound.{Sound}

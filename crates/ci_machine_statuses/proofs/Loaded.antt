@@ -1,12 +1,12 @@
 -- What is made of the records of a pipeline is what the state has of it.
-use Rattle.std.proofs.Common.{◌≡◌, ℕ, ◌-◌, ◌<◌, ◌≤◌, true, ◌==◌, List, length, map, filter, All, slice_index_or, Result, Ok, Err, IfOk, IfErr, OnOk, nat_cmp, sym, ap, subst, ◌∙◌, arith}
-use Rattle.std.proofs.Common.{eqb-true}
+use Rattle.std.proofs.Common.{◌≡◌, ℕ, ◌-◌, ◌<◌, ◌≤◌, true, ◌==◌, List, length, map, filter, All, slice_index_or, Result, Ok, Err, IfOk, IfErr, OnOk, nat_cmp, sym, ap, subst, ◌∙◌}
+use Rattle.std.proofs.Common.{arith, eqb-true}
 use Rattle.std.specs.List.Sorted.{IsStrictlySortedBy}
 use Rattle.std.proofs.lemmas.Bool.{and_from, le-leb}
 use Rattle.std.proofs.lemmas.List.{get_or-map, length-map}
 use Rattle.ci_machine.specs.Prelude.{is_among, IsAcyclic, JobGraph}
-use Rattle.ci_machine_steps.specs.Prelude.{BoardState, attempts_of, Job, Need, Attempt, BoardRow, State, is_within, pair_of, jobs_of, numbers_of, graph_of, facts_in, facts_of, rows_of, row_for}
-use Rattle.ci_machine_steps.specs.Prelude.{row_or_none, AreBoard, IsSound, pairs_among, predecessors_by}
+use Rattle.ci_machine_steps.specs.Prelude.{BoardState, attempts_of, Job, Need, Attempt, BoardRow, State, is_within, pair_of, jobs_of, numbers_of, graph_of, facts_in, facts_of}
+use Rattle.ci_machine_steps.specs.Prelude.{rows_of, row_for, row_or_none, AreBoard, IsSound, pairs_among, predecessors_by}
 use Rattle.ci_machine.proofs.Keyed.{Has, Rising, rising_filter, map_has, has_from_all, All-from_has, filter_has, has_filter, has_map}
 use Rattle.ci_machine.proofs.Filters.{filter_implied, find_implied}
 use Rattle.ci_machine_steps.proofs.Sound.{Sound, ascend_from_rising, sound as of_sound}

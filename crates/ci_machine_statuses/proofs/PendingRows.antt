@@ -1,6 +1,7 @@
 -- The pending jobs by their rows.
 use Rattle.std.proofs.Common.{◌≡◌, ℕ, Bool, ◌==◌, List, [], ◌∷◌, map, filter, Some, option_map, refl, sym, ap, subst, ◌∙◌, eq-eqb}
-use Rattle.ci_machine_steps.specs.Prelude.{Status, is_status, Row, Job, BoardRow, State, row_for, row_or_none, status_for, AreBoard, is_pending, queued, queued_at, queue, rows_with}
+use Rattle.ci_machine_steps.specs.Prelude.{Status, is_status, Row, Job, BoardRow, State, row_for, row_or_none, status_for, AreBoard, is_pending, queued, queued_at, queue}
+use Rattle.ci_machine_steps.specs.Prelude.{rows_with}
 use Rattle.ci_machine.specs.Prelude.{row_at}
 use Rattle.ci_machine.proofs.Keyed.{Has, find_has, has_filter, filter_same, has_map, map_has}
 use Rattle.ci_machine.proofs.Tests.{has_any}
