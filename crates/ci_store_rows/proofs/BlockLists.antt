@@ -1,20 +1,19 @@
 -- Traces, and the lists of their blocks.
-use Rattle.std.proofs.Common.{◌≡◌, ◌≢◌, ◌∙◌, ◌<◌, ◌≤◌, ◌==◌, ◌&&◌, ℕ, zero, suc, ◌+◌, ◌-◌, ◌*◌, ◌%◌, List, [], ◌∷◌, ◌++◌, map, filter, find, take, drop, length, min, Bool, true}
-use Rattle.std.proofs.Common.{false, not, cond, is_eq, is_lt, Ordering, Less, Equal, Greater, Option, Some, None, refl, sym, ap, subst, arith, IsPermutation, ne_eqb, length-append}
-use Rattle.std.proofs.Common.{All, IfSome, nat_cmp}
-use Rattle.std.specs.List.{AllByRecursion, flat_map, range_with_len, last_or}
-use Rattle.std.specs.Ordering.{ordering_reverse}
-use Rattle.std.proofs.lemmas.Cmp.{nat_cmp_total}
-use Rattle.std.proofs.Math.Seq.{take-add}
-use Rattle.std.proofs.lemmas.Bool.{eqb-true, eq-eqb, lt-ltb}
-use Rattle.std.proofs.lemmas.List.{length-take, length-drop, drop-drop, drop_all, drop-append-le, take_all, take-append-le, append_assoc, append-nil}
-use Rattle.std.proofs.lemmas.List.Elements.{filter-append, All-from_recursion}
-use Rattle.std.proofs.lemmas.List.FromFn.{map-range_with_len_more, take-map-range_with_len, length-map-range_with_len}
-use Rattle.std.proofs.lemmas.List.Sorted.{IsPermutation-refl, IsPermutation-sym, IsPermutation-trans, IsPermutation-cons, IsPermutation-to_front, IsPermutation-append_left, IsPermutation-append_right, IsPermutation-append_comm}
 use Rattle.ci_store.specs.Prelude.{IsAscending, placed, put, trace_cmp, trace_in, bytes_or_none, with_bytes, Trace}
-use Rattle.sqlite_keyed.proofs.ListLemmas.{IsPermutation-same, IsPermutation-filter, filter-filter, ascending-map, all_weaker}
 use Rattle.ci_store_rows.specs.Prelude.{Block, BLOCK_BYTES, block_at, block_count, blocks_of, block_sizes, all_blocks, last_block, StaysWithin, Rises}
+use Rattle.std.proofs.Common.{All}
+use Rattle.std.proofs.Math.Seq.{take-add}
+use Rattle.std.proofs.lemmas.List.{length-take, length-drop, drop-drop, drop_all, drop-append-le, take_all, take-append-le, append_assoc, append-nil}
+use Rattle.std.proofs.lemmas.List.FromFn.{map-range_with_len_more, take-map-range_with_len, length-map-range_with_len}
+use Rattle.std.proofs.lemmas.List.Sorted.{IsPermutation-refl, IsPermutation-trans, IsPermutation-cons, IsPermutation-to_front, IsPermutation-append_left}
+use Rattle.std.proofs.lemmas.List.Sorted.{IsPermutation-append_right, IsPermutation-append_comm, IsPermutation-sym}
+use Rattle.ci_store_rows.proofs.Words.{◌≡◌, ◌≢◌, ◌∙◌, ◌<◌, ◌≤◌, ◌==◌, ◌&&◌, ℕ, zero, suc, ◌+◌, ◌-◌, ◌*◌, ◌%◌, List, [], ◌∷◌, ◌++◌, map, filter, find, take, drop, length, min}
+use Rattle.ci_store_rows.proofs.Words.{Bool, true, false, not, cond, is_eq, is_lt, Ordering, Less, Equal, Greater, Option, Some, None, refl, sym, ap, subst, arith}
+use Rattle.ci_store_rows.proofs.Words.{IsPermutation, ne_eqb, length-append, IfSome, nat_cmp, AllByRecursion, flat_map, range_with_len, last_or, ordering_reverse}
+use Rattle.ci_store_rows.proofs.Words.{nat_cmp_total, eqb-true, eq-eqb, lt-ltb, filter-append, All-from_recursion, IsPermutation-same, IsPermutation-filter, filter-filter}
+use Rattle.ci_store_rows.proofs.Words.{ascending-map, all_weaker, all_from, has_filtered, filter_all, filter_none, all-flat_map, all-map, IsPermutation-flat_map, not-true}
 use Rattle.ci_store_rows.proofs.Records.{is_number}
+use Rattle.ci_store_rows.proofs.Lists.{inserted}
 
 abbrev pub trace : ℕ → List ℕ → Trace
 trace n bytes = record { attempt = n; bytes = bytes }
@@ -125,9 +124,10 @@ test_above n t u is low = ne_eqb u.attempt n (λ same. above_apart t.attempt u.a
 
 -- those above the trace of an attempt are of others
 all_others : (n : ℕ) (t : Trace) (ts : List Trace) → t.attempt ≡ n → AllByRecursion (λ u. nat_cmp t.attempt u.attempt ≡ Less) ts → of_others n ts ≡ ts
-all_others n t [] is up = refl
-all_others n t (u ∷ ts) is up =
-    ap (λ b. cond (not b) (u ∷ of_others n ts) (of_others n ts)) (is_number u.attempt n ∙ test_above n t u is up.0) ∙ ap (λ l. u ∷ l) (all_others n t ts is up.1)
+all_others n t ts is up = filter_all _ ts (all_weaker _ _ (λ u low. ap not (is_number u.attempt n ∙ test_above n t u is low)) ts up)
+
+apart : (n : ℕ) (ts : List Trace) → AllByRecursion (λ t. (t.attempt == n) ≡ false) (of_others n ts)
+apart n ts = all_from _ (of_others n ts) (λ t h. sym (is_number t.attempt n) ∙ not-true _ (has_filtered (λ t. not (is_eq (nat_cmp t.attempt n))) ts t h).1)
 
 -- all blocks are those of one trace, which may be empty, and those of the others
 pub parted : (n : ℕ) (ts : List Trace) → Rises trace_cmp ts → IsPermutation (blocks_of (trace n (trace_in n ts)) ++ all_blocks (of_others n ts)) (all_blocks ts)
@@ -147,35 +147,14 @@ parted n (t ∷ ts) up =
         (IsPermutation-append_right (blocks_of t) _ _ more)))
 
 filter_const : {X Y : Type 0} (p : Y → Bool) (f : X → Y) (b : Bool) → ((x : X) → p (f x) ≡ b) → (xs : List X) → filter p (map f xs) ≡ cond b (map f xs) []
-filter_const p f true same [] = refl
-filter_const p f false same [] = refl
-filter_const p f true same (x ∷ xs) = ap (λ b. cond b (f x ∷ filter p (map f xs)) (filter p (map f xs))) (same x) ∙ ap (λ l. f x ∷ l) (filter_const p f true same xs)
-filter_const p f false same (x ∷ xs) = ap (λ b. cond b (f x ∷ filter p (map f xs)) (filter p (map f xs))) (same x) ∙ filter_const p f false same xs
+filter_const p f true same xs = filter_all p (map f xs) (all-map (λ y. p y ≡ true) f same xs)
+filter_const p f false same xs = filter_none p (map f xs) (all-map (λ y. p y ≡ false) f same xs)
 
 -- no block of another attempt is at a place of this one's trace
 others_stay : (n seq : ℕ) (ts : List Trace) → others_at n seq (all_blocks (of_others n ts)) ≡ all_blocks (of_others n ts)
-others_stay n seq [] = refl
-others_stay n seq (t ∷ ts) = go (is_eq (nat_cmp t.attempt n)) refl (others_stay n seq ts)
-  where
-    go : (b : Bool) → is_eq (nat_cmp t.attempt n) ≡ b → others_at n seq (all_blocks (of_others n ts)) ≡ all_blocks (of_others n ts)
-        → others_at n seq (all_blocks (cond (not b) (t ∷ of_others n ts) (of_others n ts))) ≡ all_blocks (cond (not b) (t ∷ of_others n ts) (of_others n ts))
-    go true is more = more
-    go false is more =
-        filter-append (λ b. not (is_at n seq b)) (blocks_of t) (all_blocks (of_others n ts))
-        ∙ (λ i. filter_const (λ b. not (is_at n seq b)) (block t.attempt t.bytes) true (λ at. ap (λ b. not (b && (at == seq))) (sym (is_number t.attempt n) ∙ is)) (range_with_len 0 (block_count (length t.bytes))) i ++ more i)
-
--- a trace that is placed brings its blocks
-placed_blocks : (t : Trace) (ts : List Trace) → IsPermutation (blocks_of t ++ all_blocks ts) (all_blocks (placed trace_cmp t ts))
-placed_blocks t [] = IsPermutation-refl _
-placed_blocks t (u ∷ ts) = go (is_lt (trace_cmp u t)) (placed_blocks t ts)
-  where
-    go : (b : Bool) → IsPermutation (blocks_of t ++ all_blocks ts) (all_blocks (placed trace_cmp t ts)) → IsPermutation (blocks_of t ++ all_blocks (u ∷ ts)) (all_blocks (cond b (u ∷ placed trace_cmp t ts) (t ∷ u ∷ ts)))
-    go false more = IsPermutation-refl _
-    go true more =
-        IsPermutation-trans _ _ _ (IsPermutation-same _ _ (sym (append_assoc (blocks_of t) (blocks_of u) (all_blocks ts))))
-        (IsPermutation-trans _ _ _ (IsPermutation-append_left (all_blocks ts) _ _ (IsPermutation-append_comm (blocks_of t) (blocks_of u)))
-        (IsPermutation-trans _ _ _ (IsPermutation-same _ _ (append_assoc (blocks_of u) (blocks_of t) (all_blocks ts)))
-        (IsPermutation-append_right (blocks_of u) _ _ more)))
+others_stay n seq ts =
+    filter_all (λ b. not (is_at n seq b)) _ (all-flat_map (λ b. not (is_at n seq b) ≡ true) blocks_of (of_others n ts)
+    (all_weaker (λ t. (t.attempt == n) ≡ false) _ (λ t other. all-map _ (block t.attempt t.bytes) (λ at. ap (λ b. not (b && (at == seq))) other) (range_with_len 0 (block_count (length t.bytes)))) _ (apart n ts)))
 
 -- bytes that stay within a block change that block alone
 pub block_put : (n : ℕ) (more : List ℕ) (seq : ℕ) (bytes : List ℕ) (ts : List Trace) → Rises trace_cmp ts → StaysWithin (trace_in n ts) more seq bytes
@@ -187,7 +166,7 @@ block_put n more seq bytes ts up h =
     IsPermutation-trans _ _ _ (IsPermutation-cons b _ _ (IsPermutation-filter (λ b. not (is_at n seq b)) _ _ (IsPermutation-sym _ _ (parted n ts up))))
     (IsPermutation-trans _ _ _ (IsPermutation-same _ _ (ap (λ l. b ∷ l) (filter-append (λ b. not (is_at n seq b)) old rest ∙ ap (λ l. others_at n seq old ++ l) (others_stay n seq ts))))
     (IsPermutation-trans _ _ _ (IsPermutation-append_left rest _ _ (grown n (trace_in n ts) more seq bytes h))
-    (placed_blocks (trace n (trace_in n ts ++ more)) (of_others n ts))))
+    (IsPermutation-flat_map blocks_of _ _ (inserted trace_cmp (trace n (trace_in n ts ++ more)) (of_others n ts)))))
 
 -- ---- the whole trace of an attempt
 
@@ -196,20 +175,18 @@ pub blocks_without : (n : ℕ) (ts : List Trace) → all_blocks (of_others n ts)
 blocks_without n [] = refl
 blocks_without n (t ∷ ts) = go (is_eq (nat_cmp t.attempt n)) refl (blocks_without n ts)
   where
+    own : (e : Bool) → is_eq (nat_cmp t.attempt n) ≡ e → filter (λ b. not (is_eq (nat_cmp b.attempt n))) (blocks_of t) ≡ cond (not e) (blocks_of t) []
+    own e is = filter_const _ (block t.attempt t.bytes) (not e) (λ seq. ap not is) (range_with_len 0 (block_count (length t.bytes)))
+
     go : (e : Bool) → is_eq (nat_cmp t.attempt n) ≡ e → all_blocks (of_others n ts) ≡ filter (λ b. not (is_eq (nat_cmp b.attempt n))) (all_blocks ts)
         → all_blocks (cond (not e) (t ∷ of_others n ts) (of_others n ts)) ≡ filter (λ b. not (is_eq (nat_cmp b.attempt n))) (all_blocks (t ∷ ts))
-    go e is more = step e (filter_const (λ b. not (is_eq (nat_cmp b.attempt n))) (block t.attempt t.bytes) (not e) (λ seq. ap not is) (range_with_len 0 (block_count (length t.bytes)))) ∙ sym (filter-append (λ b. not (is_eq (nat_cmp b.attempt n))) (blocks_of t) (all_blocks ts))
-      where
-        step : (e : Bool) → filter (λ b. not (is_eq (nat_cmp b.attempt n))) (blocks_of t) ≡ cond (not e) (blocks_of t) []
-            → all_blocks (cond (not e) (t ∷ of_others n ts) (of_others n ts)) ≡ filter (λ b. not (is_eq (nat_cmp b.attempt n))) (blocks_of t) ++ filter (λ b. not (is_eq (nat_cmp b.attempt n))) (all_blocks ts)
-        step true own = λ i. sym own i ++ more i
-        step false own = λ i. sym own i ++ more i
+    go true is more = (λ i. sym (own true is) i ++ more i) ∙ sym (filter-append _ (blocks_of t) (all_blocks ts))
+    go false is more = (λ i. sym (own false is) i ++ more i) ∙ sym (filter-append _ (blocks_of t) (all_blocks ts))
 
 none_above : (n : ℕ) (t : Trace) (ts : List Trace) → t.attempt ≡ n → AllByRecursion (λ u. nat_cmp t.attempt u.attempt ≡ Less) ts → filter (λ b. b.attempt == n) (all_blocks ts) ≡ []
-none_above n t [] is up = refl
-none_above n t (u ∷ ts) is up =
-    filter-append (λ b. b.attempt == n) (blocks_of u) (all_blocks ts)
-    ∙ (λ i. filter_const (λ b. b.attempt == n) (block u.attempt u.bytes) false (λ seq. test_above n t u is up.0) (range_with_len 0 (block_count (length u.bytes))) i ++ none_above n t ts is up.1 i)
+none_above n t ts is up =
+    filter_none (λ b. b.attempt == n) (all_blocks ts) (all-flat_map (λ b. (b.attempt == n) ≡ false) blocks_of ts
+    (all_weaker _ _ (λ u low. all-map _ (block u.attempt u.bytes) (λ seq. test_above n t u is low) (range_with_len 0 (block_count (length u.bytes)))) ts up))
 
 -- the blocks of one attempt among all are those of its trace
 pub blocks_of_one : (n : ℕ) (ts : List Trace) → Rises trace_cmp ts → filter (λ b. b.attempt == n) (all_blocks ts) ≡ blocks_of (trace n (trace_in n ts))
@@ -246,8 +223,10 @@ last_behind : {A : Type 0} (o : Option A) (xs : List A) (x : A) → last_or o (x
 last_behind o [] x = refl
 last_behind o (y ∷ xs) x = last_behind (Some y) xs x
 
-split : (t : Trace) (count : ℕ) → first_blocks t.attempt t.bytes (suc count) ≡ first_blocks t.attempt t.bytes count ++ block t.attempt t.bytes count ∷ []
-split t count = let one_more : suc count ≡ count + 1 = omega arith in ap (first_blocks t.attempt t.bytes) one_more ∙ map-range_with_len_more (block t.attempt t.bytes) 0 count count (omega arith)
+last_of : (t : Trace) (count : ℕ) → last_or None (first_blocks t.attempt t.bytes (suc count)) ≡ Some (block t.attempt t.bytes count)
+last_of t count =
+    let one_more : suc count ≡ count + 1 = omega arith in
+    ap (last_or None) (ap (first_blocks t.attempt t.bytes) one_more ∙ map-range_with_len_more (block t.attempt t.bytes) 0 count count (omega arith)) ∙ last_behind None (first_blocks t.attempt t.bytes count) _
 
 -- a trace without a last block is empty
 pub no_last : (t : Trace) → last_block t ≡ None → length t.bytes ≡ 0
@@ -255,7 +234,7 @@ no_last t none = go (block_count (length t.bytes)) refl none
   where
     go : (count : ℕ) → block_count (length t.bytes) ≡ count → last_or None (first_blocks t.attempt t.bytes count) ≡ None → length t.bytes ≡ 0
     go zero is h = omega (arith, is)
-    go (suc count) is h = absurd (let e : Some (block t.attempt t.bytes count) ≡ None = sym (ap (last_or None) (split t count) ∙ last_behind None (first_blocks t.attempt t.bytes count) _) ∙ h in cc)
+    go (suc count) is h = absurd (let e : Some (block t.attempt t.bytes count) ≡ None = sym (last_of t count) ∙ h in cc)
 
 -- what the last block says of its trace
 pub record EndsWith (t : Trace) (b : Block) : Type 0 where
@@ -273,7 +252,7 @@ its_last t b last = go (block_count (length t.bytes)) refl last
     go (suc count) is h =
         let long = length-take BLOCK_BYTES (drop (count * BLOCK_BYTES) t.bytes) in
         let rest = length-drop (count * BLOCK_BYTES) t.bytes in
-        let same : Some (block t.attempt t.bytes count) ≡ Some b = sym (ap (last_or None) (split t count) ∙ last_behind None (first_blocks t.attempt t.bytes count) _) ∙ h in
+        let same : Some (block t.attempt t.bytes count) ≡ Some b = sym (last_of t count) ∙ h in
         let it : block t.attempt t.bytes count ≡ b = cc in
         subst (EndsWith t) it (record { attempt = refl; size = omega (arith, is, long, rest); some = omega (arith, is, long, rest); within = omega (arith, long); is = refl })
 
@@ -335,26 +314,16 @@ empty t is = λ i. blocks_of (trace t.attempt (is i))
 
 -- a trace that is put is the attempt's
 put_in : (t : Trace) (ts : List Trace) → trace_in t.attempt (put trace_cmp t ts) ≡ t.bytes
-put_in t ts = placed_in (of_others t.attempt ts) (none_left ts)
+put_in t ts = placed_in (of_others t.attempt ts) (apart t.attempt ts)
   where
-    none_left : (ts : List Trace) → AllByRecursion (λ u. (u.attempt == t.attempt) ≡ false) (of_others t.attempt ts)
-    none_left [] = tt
-    none_left (u ∷ ts) = go (is_eq (nat_cmp u.attempt t.attempt)) refl (none_left ts)
-      where
-        go : (e : Bool) → is_eq (nat_cmp u.attempt t.attempt) ≡ e → AllByRecursion (λ u. (u.attempt == t.attempt) ≡ false) (of_others t.attempt ts) → AllByRecursion (λ u. (u.attempt == t.attempt) ≡ false) (cond (not e) (u ∷ of_others t.attempt ts) (of_others t.attempt ts))
-        go true is more = more
-        go false is more = (sym (is_number u.attempt t.attempt) ∙ is, more)
-
     here : (us : List Trace) → trace_in t.attempt (t ∷ us) ≡ t.bytes
     here us = ap (λ b. bytes_or_none (cond b (Some t) (find (λ u. u.attempt == t.attempt) us))) (eq-eqb t.attempt t.attempt refl)
 
     placed_in : (us : List Trace) → AllByRecursion (λ u. (u.attempt == t.attempt) ≡ false) us → trace_in t.attempt (placed trace_cmp t us) ≡ t.bytes
     placed_in [] apart = here []
-    placed_in (u ∷ us) apart = go (is_lt (trace_cmp u t)) (placed_in us apart.1)
-      where
-        go : (b : Bool) → trace_in t.attempt (placed trace_cmp t us) ≡ t.bytes → trace_in t.attempt (cond b (u ∷ placed trace_cmp t us) (t ∷ u ∷ us)) ≡ t.bytes
-        go false more = here (u ∷ us)
-        go true more = ap (λ b. bytes_or_none (cond b (Some u) (find (λ u. u.attempt == t.attempt) (placed trace_cmp t us)))) apart.0 ∙ more
+    placed_in (u ∷ us) apart =
+        elim (is_lt (trace_cmp u t)) as (λ b. trace_in t.attempt (cond b (u ∷ placed trace_cmp t us) (t ∷ u ∷ us)) ≡ t.bytes)
+        [ true ↦ ap (λ b. bytes_or_none (cond b (Some u) (find (λ u. u.attempt == t.attempt) (placed trace_cmp t us)))) apart.0 ∙ placed_in us apart.1 | false ↦ here (u ∷ us) ]
 
 -- what is put in place of what was put
 put_again : (s t : Trace) (ts : List Trace) → s.attempt ≡ t.attempt → put trace_cmp t (put trace_cmp s ts) ≡ put trace_cmp t ts
@@ -365,11 +334,9 @@ put_again s t ts same = ap (placed trace_cmp t) (placed_gone (of_others s.attemp
 
     placed_gone : (us : List Trace) → of_others t.attempt (placed trace_cmp s us) ≡ of_others t.attempt us
     placed_gone [] = ap (λ b. cond (not b) (s ∷ []) []) itself
-    placed_gone (u ∷ us) = go (is_lt (trace_cmp u s)) (placed_gone us)
-      where
-        go : (b : Bool) → of_others t.attempt (placed trace_cmp s us) ≡ of_others t.attempt us → of_others t.attempt (cond b (u ∷ placed trace_cmp s us) (s ∷ u ∷ us)) ≡ of_others t.attempt (u ∷ us)
-        go true more = ap (λ l. cond (not (is_eq (nat_cmp u.attempt t.attempt))) (u ∷ l) l) more
-        go false more = ap (λ b. cond (not b) (s ∷ of_others t.attempt (u ∷ us)) (of_others t.attempt (u ∷ us))) itself
+    placed_gone (u ∷ us) =
+        elim (is_lt (trace_cmp u s)) as (λ b. of_others t.attempt (cond b (u ∷ placed trace_cmp s us) (s ∷ u ∷ us)) ≡ of_others t.attempt (u ∷ us))
+        [ true ↦ ap (λ l. cond (not (is_eq (nat_cmp u.attempt t.attempt))) (u ∷ l) l) (placed_gone us) | false ↦ ap (λ b. cond (not b) (s ∷ of_others t.attempt (u ∷ us)) (of_others t.attempt (u ∷ us))) itself ]
 
 -- the trace, once bytes stand behind it
 pub trace_grown : (n : ℕ) (more : List ℕ) (ts : List Trace) → trace_in n (with_bytes (trace n more) ts) ≡ trace_in n ts ++ more

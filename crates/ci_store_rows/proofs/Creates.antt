@@ -1,14 +1,13 @@
 -- Each CREATE adds its table or its index to the schema.
-use Rattle.std.proofs.Common.{◌≡◌, ◌⊎◌, inl, inr, ℕ, zero, suc, map, ◌+◌, ◌<◌, List, [], ◌∷◌, ◌++◌, false, Some, None, Ok, Err, Result, refl, sym, ap, subst, ◌∙◌, arith, slice_get, slice_index_or, take}
-use Rattle.std.specs.List.{AllByRecursion}
 use Rattle.ci_store.specs.Prelude.{Table, Schema, Trees, Database, index_defined_by, Index, created, next_tree, KeepsRows, Tally, AtPlace, Defines, MakesIndex, lacks_sequence}
 use Rattle.ci_store.specs.Prelude.{mode_of, Executes, understood, everything, CreateTable, CreateIndex}
-use Rattle.sqlite_tied.specs.Text.{table_defined_by}
-use Rattle.sqlite_catalog.specs.Change.{indexed}
-use Rattle.sqlite.specs.State.{State, Writes}
-use Rattle.sqlite.proofs.Callers.{IsPlain, command_of, statement_of, runs_as}
 use Rattle.ci_store_rows.specs.Prelude.{SCHEMA, CREATE_MODE, the_schema, IsBare}
+use Rattle.sqlite.specs.State.{State, Writes}
+use Rattle.sqlite_catalog.specs.Change.{indexed}
+use Rattle.sqlite_tied.specs.Text.{table_defined_by}
 use Rattle.ci_store_rows.specs.Schema as table
+use Rattle.ci_store_rows.proofs.Words.{◌≡◌, ◌⊎◌, inl, inr, ℕ, zero, suc, map, ◌+◌, ◌<◌, List, [], ◌∷◌, false, Some, None, Ok, Err, Result, refl, sym, ap, subst, ◌∙◌, arith}
+use Rattle.ci_store_rows.proofs.Words.{slice_get, slice_index_or, take, AllByRecursion, IsPlain, command_of, statement_of, runs_as, all-append, all_both}
 
 -- a part that gave a value did not stop on the way
 pub went : {B E R : Type 0} {b : B} {Stops : E → Type 0} → ((stop : E) × Stops stop × (Ok b ≡ Err stop)) ⊎ R → R
@@ -19,12 +18,7 @@ pub same_value : {B E : Type 0} {a b : B} → ◌≡◌ {A = Result B E} (Ok a) 
 same_value e = cc
 
 kept_bare : (tables : List Table) (old new : Trees) → AllByRecursion (λ t. old t.tree ≡ []) tables → KeepsRows tables old new → AllByRecursion (λ t. new t.tree ≡ []) tables
-kept_bare [] old new bare kept = tt
-kept_bare (t ∷ tables) old new bare kept = (kept.0 ∙ bare.0, kept_bare tables old new bare.1 kept.1)
-
-more_bare : (tables : List Table) (table : Table) (db : Trees) → AllByRecursion (λ t. db t.tree ≡ []) tables → db table.tree ≡ [] → AllByRecursion (λ t. db t.tree ≡ []) (tables ++ table ∷ [])
-more_bare [] table db bare own = (own, tt)
-more_bare (t ∷ tables) table db bare own = (bare.0, more_bare tables table db bare.1 own)
+kept_bare tables old new = all_both (λ (t : Table). old t.tree ≡ []) (λ t. new t.tree ≡ old t.tree) (λ t. new t.tree ≡ []) (λ t none same. same ∙ none) tables
 
 -- what the text of a table means, which `refl` finds
 pub record MeansTable (before after : Schema) (text : List ℕ) (table : Table) : Type 0 where
@@ -48,7 +42,7 @@ creates_table before after text table means old new count bare h =
     let now : new.now ≡ first.0 = ap (λ (p : Tally × Database). p.1) (same_value all.2) ∙ same_value (rw plain at first.2) in
     let empty : first.0.trees (next_tree before) ≡ [] = subst (λ s. first.0.trees (next_tree s) ≡ []) bare.listed made.empty in
     let kept : KeepsRows before.tables old.now.trees first.0.trees = subst (λ (s : Schema). KeepsRows s.tables old.now.trees first.0.trees) bare.listed made.others in
-    let rows = more_bare before.tables (record table { tree = next_tree before }) first.0.trees (kept_bare before.tables old.now.trees first.0.trees bare.rows kept) empty in
+    let rows = all-append (λ (t : Table). first.0.trees t.tree ≡ []) before.tables (record table { tree = next_tree before } ∷ []) (kept_bare before.tables old.now.trees first.0.trees bare.rows kept) (empty, tt) in
     record {
       listed = ap (λ (d : Database). d.schema) now ∙ schema;
       rows = subst (λ (s : Schema). AllByRecursion (λ t. new.now.trees t.tree ≡ []) s.tables) means.is (subst (λ (d : Database). AllByRecursion (λ t. d.trees t.tree ≡ []) (created before table).tables) (sym now) rows);

@@ -1,14 +1,9 @@
 -- The queries that load what jobs ask of runners.
-use Rattle.std.proofs.Common.{◌≡◌, ◌∙◌, ◌==◌, ◌&&◌, ℕ, List, [], ◌∷◌, true, Option, Some, option_map, codes, refl, sym, ap, inl, inr, nat_lt}
 use Rattle.ci_store.specs.Prelude.{Text, Row, column, Term, col, understood, Ghosts, Held, state, everything, equal, Gt, Has, Kept, demand_of, demand_at, Job, Demand}
-use Rattle.sqlite.specs.Collation.TheVariants.{Binary}
-use Rattle.sqlite.proofs.Callers.{IsPlain}
-use Rattle.sqlite_rules.proofs.ListLemmas.{all_has}
-use Rattle.serde_json.specs.Read.{read}
-use Rattle.ci_store.proofs.Selects.{MeansSelect}
-use Rattle.ci_store.proofs.Scalars.{compares}
 use Rattle.ci_store_rows.specs.Prelude.{spec_text, spec_data, ReadsDemand, SELECT_DEMAND, SELECT_DEMANDS_ABOVE, LAST_INTEGER, the_schema, job, number, job_row, IsRegular, IsAt}
 use Rattle.ci_store_rows.specs.Prelude.{ShowsRecords, listed, FindsNumber, demand_cells, IsDemandRow}
+use Rattle.ci_store_rows.proofs.Words.{Binary, ◌≡◌, ◌∙◌, ◌==◌, ◌&&◌, ℕ, List, [], ◌∷◌, true, Option, Some, option_map, codes, refl, sym, ap, inl, inr, nat_lt, IsPlain, all_has}
+use Rattle.ci_store_rows.proofs.Words.{read, MeansSelect, compares}
 use Rattle.ci_store_rows.proofs.Records.{is, above, finds_number, finds_beyond}
 use Rattle.ci_store_rows.proofs.Shows.{shows_columns, found_as, found_none}
 use Rattle.ci_store_rows.proofs.Same.{number_of, text_of}

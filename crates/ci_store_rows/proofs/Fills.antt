@@ -1,13 +1,13 @@
 -- The first rows of `meta`.
-use Rattle.std.proofs.Common.{◌≡◌, ℕ, zero, suc, ◌+◌, ◌<◌, ◌==◌, if◌then◌else◌, take, List, [], ◌∷◌, ◌++◌, codes, map, Ok, sym, subst, arith, append-nil, slice_index_or, IsPermutation}
-use Rattle.std.specs.List.{AllByRecursion}
-use Rattle.std.proofs.lemmas.List.Sorted.{IsPermutation-sym, IsPermutation-refl, IsPermutation-middle}
 use Rattle.ci_store.specs.Prelude.{Text, value_cmp, Row, Table, Trees, Database, Executes, IsSound, IsShaped, nothing_kept, first_numbers, image, places, without, Holds, IsOf}
-use Rattle.sqlite_sql.specs.Ops.{binary}
-use Rattle.sqlite.specs.State.{State as Store}
-use Rattle.sqlite_trees.specs.declared.store.Shape.TheVariants as shape
-use Rattle.ci_store.proofs.Puts.{inserts_one}
 use Rattle.ci_store_rows.specs.Prelude.{UPDATE_META, INSERT_META, the_schema, meta, meta_row, meta_rows, Stands, IsBare}
+use Rattle.sqlite.specs.State.{State as Store}
+use Rattle.sqlite_sql.specs.Ops.{binary}
+use Rattle.std.proofs.lemmas.List.{append-nil}
+use Rattle.std.proofs.lemmas.List.Sorted.{IsPermutation-refl, IsPermutation-middle, IsPermutation-sym}
+use Rattle.sqlite_trees.specs.declared.store.Shape.TheVariants as shape
+use Rattle.ci_store_rows.proofs.Words.{◌≡◌, ℕ, zero, suc, ◌+◌, ◌<◌, ◌==◌, if◌then◌else◌, take, List, [], ◌∷◌, ◌++◌, codes, map, Ok, sym, subst, arith, slice_index_or}
+use Rattle.ci_store_rows.proofs.Words.{IsPermutation, inserts_one, all_weaker}
 use Rattle.ci_store_rows.proofs.OneList.{alike_but}
 use Rattle.ci_store_rows.proofs.Records.{is}
 use Rattle.ci_store_rows.proofs.Meta.{sets, terms, means, gives}
@@ -19,17 +19,13 @@ first_rows = meta_rows first_numbers
 abbrev pub rows_after : ℕ → ℕ → List Row
 rows_after k tree = if tree == meta.tree then take k first_rows else []
 
-holds_none : (tables : List Table) (db : Trees) → AllByRecursion (λ t. db t.tree ≡ []) tables → AllByRecursion (λ t. Holds t [] db) tables
-holds_none [] db bare = tt
-holds_none (t ∷ tables) db bare = (
-  record { shaped = subst (IsShaped shape.Table) (sym bare.0) (tt, tt); same = subst (λ rows. IsPermutation (map (image (places t)) rows) []) (sym bare.0) (IsPermutation-refl []) },
-  holds_none tables db bare.1,
-)
+empty : (t : Table) (db : Trees) → db t.tree ≡ [] → Holds t [] db
+empty t db none = record { shaped = subst (IsShaped shape.Table) (sym none) (tt, tt); same = subst (λ rows. IsPermutation (map (image (places t)) rows) []) (sym none) (IsPermutation-refl []) }
 
 pub begins : (db : Database) → IsBare the_schema db → IsOf the_schema (rows_after 0) db
 begins db bare = record {
   listed = bare.listed;
-  inside = record { sound = subst (λ s. IsSound s db.trees) bare.listed (bare.sound (λ e. cc)); holds = holds_none the_schema.tables db.trees bare.rows };
+  inside = record { sound = subst (λ s. IsSound s db.trees) bare.listed (bare.sound (λ e. cc)); holds = all_weaker _ (λ t. Holds t [] db.trees) (λ t none. empty t db.trees none) the_schema.tables bare.rows };
 }
 
 pub ends : (db : Database) → IsOf the_schema (rows_after 7) db → Stands nothing_kept db

@@ -1,33 +1,32 @@
 -- What JSON is read as.
-use Rattle.std.proofs.Common.{◌≡◌, ◌∙◌, ◌&&◌, ◌||◌, ℕ, List, [], ◌∷◌, map, filter, Bool, true, false, cond, if◌then◌else◌, Option, Some, None, Result, Ok, Err, IfOk, codes, bytes_eq, refl, sym, ap}
+use Rattle.std.proofs.Common.{◌≡◌, ◌∙◌, ◌&&◌, ◌||◌, ℕ, List, [], ◌∷◌, map, filter, Bool, true, false, cond, if◌then◌else◌, Option, Some, None, codes, bytes_eq, refl, sym, ap}
 use Rattle.std.specs.List.{list_any}
-use Rattle.serde_json.specs.Data.{Data, array, string}
+use Rattle.serde_json.specs.Data.{Data, array, number, string, unsigned}
 use Rattle.serde_json.specs.Find.{get}
+use Rattle.serde_json.specs.Read.{read}
 use Rattle.serde_json.specs.View.{items_of}
 use Rattle.ci_machine.specs.Prelude.{Cause, UnknownFailure, ScriptFailure, ApiFailure, StuckOrTimeoutFailure, RunnerSystemFailure, JobExecutionTimeout, Causes, has_cause, When}
 use Rattle.ci_machine.specs.Prelude.{OnSuccess, OnFailure, Always, Manual, AllowFailure, No, Yes, ExitCodes}
-use Rattle.serde_json.specs.Read.{read}
-use Rattle.ci_store.specs.Prelude.{JobOptions, Demand}
-use Rattle.ci_store_rows.specs.Prelude.{strings, numbers, group_data, allow_data, when_text, cause_text, every_cause, causes_data, list_data, spec_data, ReadsList, ReadsSpec}
-use Rattle.ci_store_rows.specs.Prelude.{ReadsDemand, is_text}
+use Rattle.ci_store_rows.specs.Prelude.{strings, numbers, group_data, allow_data, when_text, cause_text, every_cause, causes_data, is_text}
 
-pub same_strings : (xs ys : List (List ℕ)) → strings xs ≡ strings ys → xs ≡ ys
-same_strings [] [] h = refl
-same_strings [] (y ∷ ys) h = cc
-same_strings (x ∷ xs) [] h = cc
-same_strings (x ∷ xs) (y ∷ ys) h =
+same_items : (xs ys : List Data) → items_of xs ≡ items_of ys → xs ≡ ys
+same_items [] [] h = refl
+same_items (x ∷ xs) (y ∷ ys) h =
     let first : x ≡ y = cc in
-    let rest : strings xs ≡ strings ys = cc in
-    λ i. first i ∷ same_strings xs ys rest i
+    let rest : items_of xs ≡ items_of ys = cc in
+    λ i. first i ∷ same_items xs ys rest i
+same_items xs ys h = cc
 
-pub same_numbers : (xs ys : List ℕ) → numbers xs ≡ numbers ys → xs ≡ ys
-same_numbers [] [] h = refl
-same_numbers [] (y ∷ ys) h = cc
-same_numbers (x ∷ xs) [] h = cc
-same_numbers (x ∷ xs) (y ∷ ys) h =
-    let first : x ≡ y = cc in
-    let rest : numbers xs ≡ numbers ys = cc in
-    λ i. first i ∷ same_numbers xs ys rest i
+same_mapped : {A : Type 0} (f : A → Data) → ((x y : A) → f x ≡ f y → x ≡ y) → (xs ys : List A) → map f xs ≡ map f ys → xs ≡ ys
+same_mapped f same [] [] h = refl
+same_mapped f same (x ∷ xs) (y ∷ ys) h =
+    let first : f x ≡ f y = cc in
+    let rest : map f xs ≡ map f ys = cc in
+    λ i. same x y first i ∷ same_mapped f same xs ys rest i
+same_mapped f same xs ys h = cc
+
+pub same_texts : (xs ys : List (List ℕ)) → array (strings xs) ≡ array (strings ys) → xs ≡ ys
+same_texts xs ys h = let inner : strings xs ≡ strings ys = cc in same_mapped string (λ x y e. cc) xs ys (same_items _ _ inner)
 
 pub same_group : (a b : Option (List ℕ)) → group_data a ≡ group_data b → a ≡ b
 same_group None None h = refl
@@ -37,14 +36,9 @@ same_group (Some x) (Some y) h = cc
 
 pub same_allow : (a b : AllowFailure) → allow_data a ≡ allow_data b → a ≡ b
 same_allow No No h = refl
-same_allow No Yes h = cc
-same_allow No (ExitCodes ys) h = cc
-same_allow Yes No h = cc
 same_allow Yes Yes h = refl
-same_allow Yes (ExitCodes ys) h = cc
-same_allow (ExitCodes xs) No h = cc
-same_allow (ExitCodes xs) Yes h = cc
-same_allow (ExitCodes xs) (ExitCodes ys) h = let inner : numbers xs ≡ numbers ys = cc in ap ExitCodes (same_numbers xs ys inner)
+same_allow (ExitCodes xs) (ExitCodes ys) h = let inner : numbers xs ≡ numbers ys = cc in ap ExitCodes (same_mapped (λ n. number (unsigned n)) (λ x y e. cc) xs ys (same_items _ _ inner))
+same_allow a b h = cc
 
 abbrev when_back : List ℕ → When
 when_back text = if bytes_eq text (codes "on_success") then OnSuccess else (if bytes_eq text (codes "on_failure") then OnFailure else (if bytes_eq text (codes "always") then Always else Manual))
@@ -60,23 +54,11 @@ same_when a b h = let inner : when_text a ≡ when_text b = cc in sym (when_is a
 
 -- ---- the causes that a list names
 
-same_items : (xs ys : List Data) → items_of xs ≡ items_of ys → xs ≡ ys
-same_items [] [] h = refl
-same_items [] (y ∷ ys) h = cc
-same_items (x ∷ xs) [] h = cc
-same_items (x ∷ xs) (y ∷ ys) h =
-    let first : x ≡ y = cc in
-    let rest : items_of xs ≡ items_of ys = cc in
-    λ i. first i ∷ same_items xs ys rest i
-
 any_named : (q : Cause → Bool) (p : Data → Bool) (cs : List Cause) → list_any p (map string (map cause_text (filter q cs))) ≡ list_any (λ c. q c && p (string (cause_text c))) cs
 any_named q p [] = refl
-any_named q p (c ∷ cs) = go (q c) (any_named q p cs)
-  where
-    go : (b : Bool) → list_any p (map string (map cause_text (filter q cs))) ≡ list_any (λ c. q c && p (string (cause_text c))) cs
-        → list_any p (map string (map cause_text (cond b (c ∷ filter q cs) (filter q cs)))) ≡ ((b && p (string (cause_text c))) || list_any (λ c. q c && p (string (cause_text c))) cs)
-    go true more = ap (λ b. p (string (cause_text c)) || b) more
-    go false more = more
+any_named q p (c ∷ cs) =
+    elim (q c) as (λ b. list_any p (map string (map cause_text (cond b (c ∷ filter q cs) (filter q cs)))) ≡ ((b && p (string (cause_text c))) || list_any (λ c. q c && p (string (cause_text c))) cs))
+    [ true ↦ ap (λ b. p (string (cause_text c)) || b) (any_named q p cs) | false ↦ any_named q p cs ]
 
 skipped : (b rest : Bool) → ((b && false) || rest) ≡ rest
 skipped true rest = refl
@@ -106,20 +88,6 @@ named s c ds is =
 pub member_is : (name : List ℕ) (object given found there : Data) → get name object ≡ Some found → object ≡ given → get name given ≡ Some there → found ≡ there
 member_is name object given found there got is has = let e : Some found ≡ Some there = sym got ∙ ap (get name) is ∙ has in cc
 
-pub list_read : {E : Type 0} (r : Result (List (List ℕ)) E) (text : List ℕ) (v : Data) → read text ≡ Some v → IfOk r (λ ts. v ≡ array (strings ts)) → IfOk r (ReadsList text)
-list_read (Ok ts) text v is h = λ others reads. let same : list_data ts ≡ list_data others = let a = sym is ∙ reads in cc in let inner : strings ts ≡ strings others = cc in same_strings ts others inner
-list_read (Err e) text v is h = tt
-
--- the value of a text that can be read as what these options are written as
-value_is : (text : List ℕ) (v : Data) (other : JobOptions) → read text ≡ Some v → read text ≡ Some (spec_data other) → v ≡ spec_data other
-value_is text v other is reads = let a = sym is ∙ reads in cc
-
-pub spec_read : {E : Type 0} (r : Result JobOptions E) (text : List ℕ) (v : Data) → read text ≡ Some v
-    → IfOk r (λ spec. (other : JobOptions) → v ≡ spec_data other → spec ≡ other) → IfOk r (ReadsSpec text)
-spec_read (Ok spec) text v is h = λ other reads. h other (value_is text v other is reads)
-spec_read (Err e) text v is h = tt
-
-pub demand_read : {E : Type 0} (r : Result Demand E) (text : List ℕ) (v : Data) → read text ≡ Some v
-    → IfOk r (λ demand. (other : JobOptions) → v ≡ spec_data other → (demand.tags ≡ other.tags) × (demand.resource_group ≡ other.resource_group)) → IfOk r (ReadsDemand text)
-demand_read (Ok demand) text v is h = λ other reads. h other (value_is text v other is reads)
-demand_read (Err e) text v is h = tt
+-- what is read of one text is the same
+pub same_read : (text : List ℕ) (v w : Data) → read text ≡ Some v → read text ≡ Some w → v ≡ w
+same_read text v w is reads = let a = sym is ∙ reads in cc

@@ -21,7 +21,8 @@ pub mod Fills
 pub mod Removals
 pub mod Reading
 pub mod Shows
-pub mod Numbered
+pub mod Tables
+pub mod Words
 pub mod Owned
 pub mod Same
 pub mod NextLoads

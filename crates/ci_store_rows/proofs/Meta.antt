@@ -1,15 +1,11 @@
 -- The statements that write `meta`.
-use Rattle.std.proofs.Common.{◌≡◌, ◌∙◌, ℕ, pos, List, [], ◌∷◌, codes, Bool, true, false, ◌&&◌, cond, refl, sym, inl, IsPermutation, drop}
-use Rattle.std.proofs.lemmas.List.Sorted.{IsPermutation-sym, IsPermutation-middle}
 use Rattle.ci_store.specs.Prelude.{Value, Null, Text, plain, is_null, value_cmp, equal, agree, Row, column, Term, lit, col, cast, Integer, everything, understood, Ghosts, Held}
 use Rattle.ci_store.specs.Prelude.{state, Kept, with_next, Numbers, Counter, image, places, without, Changes}
-use Rattle.sqlite_value.specs.declared.keys.Collation.TheVariants.{Binary}
-use Rattle.sqlite_value.proofs.KeyLemmas.{first_key-plain}
-use Rattle.sqlite_sql.specs.Ops.{binary}
-use Rattle.ci_store.proofs.Puts.{MeansPut, GivesRecord, updates_one}
-use Rattle.ci_store.proofs.Absent.{absent_unique}
-use Rattle.ci_store.proofs.Scalars.{cast_int}
 use Rattle.ci_store_rows.specs.Prelude.{UPDATE_META, INSERT_META, the_schema, meta, meta_index_1, meta_row, meta_rows, counter_key, rows_by_tree, rows_of, Stands}
+use Rattle.sqlite_sql.specs.Ops.{binary}
+use Rattle.std.proofs.lemmas.List.Sorted.{IsPermutation-middle, IsPermutation-sym}
+use Rattle.ci_store_rows.proofs.Words.{◌≡◌, ◌∙◌, ℕ, pos, List, [], ◌∷◌, Bool, true, false, ◌&&◌, cond, refl, sym, inl, IsPermutation, drop, Binary, first_key-plain, MeansPut}
+use Rattle.ci_store_rows.proofs.Words.{GivesRecord, updates_one, absent_unique, cast_int, take}
 use Rattle.ci_store_rows.proofs.OneList.{alike_but, regular_with_next}
 use Rattle.ci_store_rows.proofs.Records.{is, before_it, after_it}
 
@@ -42,18 +38,11 @@ gives key num = record {
 
 moved : (c : Counter) (n : ℕ) (next : Numbers) → IsPermutation (meta_row (counter_key c) n ∷ without (Text (counter_key c) ∷ []) (meta_rows next)) (meta_rows (with_next c n next))
 unfolding binary value_cmp lib.Ieee.is_nan lib.Ieee.lt
-moved Counter.Project n next = IsPermutation-sym _ _ (IsPermutation-middle (meta_row (codes "format") 1128878163 ∷ meta_row (codes "version") 2 ∷ []) _ _)
-moved Counter.Runner n next = IsPermutation-sym _ _ (IsPermutation-middle (meta_row (codes "format") 1128878163 ∷ meta_row (codes "version") 2 ∷ meta_row (codes "next_project") next.project ∷ []) _ _)
-moved Counter.Pipeline n next =
-    IsPermutation-sym _ _ (IsPermutation-middle (meta_row (codes "format") 1128878163 ∷ meta_row (codes "version") 2 ∷ meta_row (codes "next_project") next.project ∷ meta_row (codes "next_runner") next.runner ∷ []) _ _)
-moved Counter.Job n next =
-    IsPermutation-sym _ _
-    (IsPermutation-middle (meta_row (codes "format") 1128878163 ∷ meta_row (codes "version") 2 ∷ meta_row (codes "next_project") next.project ∷ meta_row (codes "next_runner") next.runner ∷ meta_row (codes "next_pipeline") next.pipeline ∷ []) _ _)
-moved Counter.Attempt n next =
-    IsPermutation-sym _ _
-    (IsPermutation-middle
-    (meta_row (codes "format") 1128878163 ∷ meta_row (codes "version") 2 ∷ meta_row (codes "next_project") next.project ∷ meta_row (codes "next_runner") next.runner ∷ meta_row (codes "next_pipeline") next.pipeline
-    ∷ meta_row (codes "next_job") next.job ∷ []) _ _)
+moved Counter.Project n next = IsPermutation-sym _ _ (IsPermutation-middle (take 2 (meta_rows next)) _ _)
+moved Counter.Runner n next = IsPermutation-sym _ _ (IsPermutation-middle (take 3 (meta_rows next)) _ _)
+moved Counter.Pipeline n next = IsPermutation-sym _ _ (IsPermutation-middle (take 4 (meta_rows next)) _ _)
+moved Counter.Job n next = IsPermutation-sym _ _ (IsPermutation-middle (take 5 (meta_rows next)) _ _)
+moved Counter.Attempt n next = IsPermutation-sym _ _ (IsPermutation-middle (take 6 (meta_rows next)) _ _)
 
 pub next_sets : {S : Type 0} (ghosts : Ghosts S) (before after : Held S) (c : Counter) (n : ℕ) (k : Kept) → Stands k (state ghosts before).now → Changes ghosts UPDATE_META.now (meta_row (counter_key c) n) 1 before after
     → Stands (record k { state = record k.state { next = with_next c n k.state.next } }) (state ghosts after).now

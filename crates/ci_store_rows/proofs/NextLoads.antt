@@ -1,11 +1,9 @@
 -- The loads of next numbers.
-use Rattle.std.proofs.Common.{◌≡◌, ◌∙◌, ℕ, pos, List, [], ◌∷◌, filter, refl, ap, subst, IsPermutation}
 use Rattle.ci_store.specs.Prelude.{Int, Text, value_cmp, Row, column, Shown, understood, everything, Kept, Numbers, Counter, has_key, next_of}
-use Rattle.sqlite_sql.specs.Ops.{binary}
-use Rattle.sqlite.specs.State.{State as Seen}
-use Rattle.sqlite.proofs.Callers.{IsPlain, one_permutation}
-use Rattle.ci_store.proofs.Selects.{MeansSelect, selects}
 use Rattle.ci_store_rows.specs.Prelude.{SELECT_META, the_schema, meta, Stands, counter_key, meta_row, meta_rows, rows_of}
+use Rattle.sqlite.specs.State.{State as Seen}
+use Rattle.sqlite_sql.specs.Ops.{binary}
+use Rattle.ci_store_rows.proofs.Words.{◌≡◌, ◌∙◌, ℕ, pos, List, [], ◌∷◌, filter, refl, ap, subst, IsPermutation, IsPlain, one_permutation, MeansSelect, selects}
 use Rattle.ci_store_rows.proofs.Records.{is}
 use Rattle.ci_store_rows.proofs.Shows.{columns_of, names_of, held}
 

@@ -5,35 +5,16 @@ use Rattle.ci_store.specs.declared.fault.StoreFault.{StoreFault}
 use Rattle.ci_store_rows.specs.Prelude.{number}
 
 pub row3 : (row : Row) → length row ≡ 3 → row ≡ column row 0 ∷ column row 1 ∷ column row 2 ∷ []
-row3 [] is = cc
-row3 (a ∷ []) is = cc
-row3 (a ∷ b ∷ []) is = cc
 row3 (a ∷ b ∷ c ∷ []) is = refl
-row3 (a ∷ b ∷ c ∷ x ∷ more) is = absurd (omega (arith, is))
+row3 row is = absurd (omega (arith, is))
 
 pub row7 : (row : Row) → length row ≡ 7 → row ≡ column row 0 ∷ column row 1 ∷ column row 2 ∷ column row 3 ∷ column row 4 ∷ column row 5 ∷ column row 6 ∷ []
-row7 [] is = cc
-row7 (a ∷ []) is = cc
-row7 (a ∷ b ∷ []) is = cc
-row7 (a ∷ b ∷ c ∷ []) is = cc
-row7 (a ∷ b ∷ c ∷ d ∷ []) is = cc
-row7 (a ∷ b ∷ c ∷ d ∷ e ∷ []) is = cc
-row7 (a ∷ b ∷ c ∷ d ∷ e ∷ f ∷ []) is = cc
 row7 (a ∷ b ∷ c ∷ d ∷ e ∷ f ∷ g ∷ []) is = refl
-row7 (a ∷ b ∷ c ∷ d ∷ e ∷ f ∷ g ∷ x ∷ more) is = absurd (omega (arith, is))
+row7 row is = absurd (omega (arith, is))
 
 pub row9 : (row : Row) → length row ≡ 9 → row ≡ column row 0 ∷ column row 1 ∷ column row 2 ∷ column row 3 ∷ column row 4 ∷ column row 5 ∷ column row 6 ∷ column row 7 ∷ column row 8 ∷ []
-row9 [] is = cc
-row9 (a ∷ []) is = cc
-row9 (a ∷ b ∷ []) is = cc
-row9 (a ∷ b ∷ c ∷ []) is = cc
-row9 (a ∷ b ∷ c ∷ d ∷ []) is = cc
-row9 (a ∷ b ∷ c ∷ d ∷ e ∷ []) is = cc
-row9 (a ∷ b ∷ c ∷ d ∷ e ∷ f ∷ []) is = cc
-row9 (a ∷ b ∷ c ∷ d ∷ e ∷ f ∷ g ∷ []) is = cc
-row9 (a ∷ b ∷ c ∷ d ∷ e ∷ f ∷ g ∷ h ∷ []) is = cc
 row9 (a ∷ b ∷ c ∷ d ∷ e ∷ f ∷ g ∷ h ∷ i ∷ []) is = refl
-row9 (a ∷ b ∷ c ∷ d ∷ e ∷ f ∷ g ∷ h ∷ i ∷ x ∷ more) is = absurd (omega (arith, is))
+row9 row is = absurd (omega (arith, is))
 
 pub option_cell : (v : Value) (o : Option ℕ) → MatchOption o (v ≡ Null) (λ n. (v ≢ Null) × (v ≡ number n)) → v ≡ or_null number o
 option_cell v None h = h

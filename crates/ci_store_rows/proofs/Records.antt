@@ -1,20 +1,14 @@
 -- A record that is put, and one that is removed, in a table of its own.
-use Rattle.std.proofs.Common.{◌≡◌, ◌<◌, ◌==◌, ℕ, ℤ, pos, nat_lt, nat_le, cond, arith, ltb-true, ne_eqb, Less, Equal, Greater, List, ◌∷◌, map, filter, Bool, true, false, not, ◌&&◌}
-use Rattle.std.proofs.Common.{Ordering, is_eq, is_lt, refl, sym, ap, subst, ◌∙◌, Some, None, Option, IsPermutation, nat_cmp}
-use Rattle.std.specs.Ordering.{ordering_then}
-use Rattle.std.proofs.lemmas.Bool.{cond_both}
-use Rattle.std.proofs.lemmas.Map.Text.{is_eq-slice_cmp}
-use Rattle.std.specs.Str.{bytes_eq}
 use Rattle.ci_store.specs.Prelude.{Null, Int, Text, value_cmp, is_true, from_truth, Compare, Coalesce, Eq, Lt, Le, Gt, Ge, Row, Term, lit, col, op2, Table, with_rowid, cast}
-use Rattle.ci_store.specs.Prelude.{Integer, Chosen, or_null, bound_value, Ghosts, Held, state, Kept, put, has_key, image, places, without, IsOf, Changes, HasPut, is_within, equal}
-use Rattle.sqlite_value.specs.declared.keys.Collation.TheVariants.{Binary}
-use Rattle.sqlite_value.proofs.OrderLemmas.{value_cmp-Int}
-use Rattle.sqlite.specs.Ops.{binary}
-use Rattle.ci_store.proofs.Queries.{picks}
-use Rattle.ci_store.proofs.Writes.{IsWholeStep}
-use Rattle.ci_store.proofs.Puts.{MeansPut, MeansRemove, GivesRecord, puts, removes}
-use Rattle.ci_store.proofs.Scalars.{cast_int, cast_null, equal_int, equal_text, int_nat, compares, compares_at_least, compares_at_most, compares_above}
+use Rattle.ci_store.specs.Prelude.{Integer, Chosen, or_null, bound_value, Ghosts, Held, state, Kept, put, has_key, image, places, without, IsOf, Changes, HasPut, is_within}
+use Rattle.ci_store.specs.Prelude.{equal}
 use Rattle.ci_store_rows.specs.Prelude.{the_schema, number, rows_of, IsRegular, Stands}
+use Rattle.sqlite.specs.Ops.{binary}
+use Rattle.std.proofs.lemmas.Map.Text.{is_eq-slice_cmp}
+use Rattle.ci_store_rows.proofs.Words.{◌≡◌, ◌<◌, ◌==◌, ℕ, ℤ, pos, nat_lt, nat_le, cond, arith, ltb-true, ne_eqb, Less, Equal, Greater, List, ◌∷◌, map, filter, Bool, true}
+use Rattle.ci_store_rows.proofs.Words.{false, not, ◌&&◌, Ordering, is_eq, is_lt, refl, sym, ap, subst, ◌∙◌, Some, None, Option, IsPermutation, nat_cmp, ordering_then}
+use Rattle.ci_store_rows.proofs.Words.{cond_both, bytes_eq, Binary, value_cmp-Int, picks, IsWholeStep, MeansPut, MeansRemove, GivesRecord, puts, removes, cast_int, cast_null}
+use Rattle.ci_store_rows.proofs.Words.{equal_int, equal_text, int_nat, compares, compares_at_least, compares_at_most, compares_above}
 use Rattle.ci_store_rows.proofs.Lists.{put_among, removed_from}
 use Rattle.ci_store_rows.proofs.OneList.{IsAlike}
 

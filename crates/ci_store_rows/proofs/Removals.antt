@@ -1,22 +1,16 @@
 -- The removal of a row that rows of other tables may refer to.
-use Rattle.std.proofs.Common.{◌≡◌, ◌≢◌, ℕ, pos, List, [], ◌∷◌, ◌++◌, map, filter, not, is_eq, Bool, true, false, ◌&&◌, cond, Some, None, Result, OnOk, IsTrue, slice_get, refl, sym}
-use Rattle.std.proofs.Common.{ap, subst, ◌∙◌, inl, inr, nat_cmp}
-use Rattle.std.specs.List.{AllByRecursion, list_any, cons_option}
-use Rattle.sqlite_value.specs.declared.keys.Key.{Key as Order}
-use Rattle.ci_store.specs.Prelude.{plain, Row, column, Term, Table, Trees, Database, Shown, Ghosts, Held, state, understood, Enforced, Has, Work, works, pairs, loses, IsShaped}
-use Rattle.ci_store.specs.Prelude.{Kept, indexed, without_record, Key, IndexChange, Holds, has_key, image, places, Changes}
-use Rattle.sqlite.proofs.Callers.{IsPlain}
-use Rattle.sqlite_rules.proofs.ListLemmas.{all_has, has_got}
-use Rattle.sqlite_trees.specs.declared.store.Shape.TheVariants as shape
-use Rattle.ci_store.proofs.Scalars.{on_ok}
-use Rattle.ci_store.proofs.Queries.{picks}
-use Rattle.ci_store.proofs.Writes.{IsWholeStep}
-use Rattle.ci_store.proofs.Puts.{MeansRemove}
 use Rattle.ci_store.proofs.Childless.{IsChildless, LacksChild, cascade, lone, whole_if_childless}
-use Rattle.ci_store.proofs.Selects.{MeansSelect, shows_none, shown_same}
-use Rattle.ci_store_rows.specs.Prelude.{the_schema, number, Stands, IsRegular, rows_of, in_state, Makes, ShowsNone, RemovesUnreferred}
-use Rattle.ci_store_rows.proofs.OneList.{IsAlike}
-use Rattle.ci_store_rows.proofs.Records.{is, remove_stands}
+use Rattle.ci_store.specs.Prelude.{plain, Row, column, Term, Table, Trees, Database, Shown, Ghosts, Held, state, understood, Enforced, Has, Work, works, pairs, loses, IsShaped}
+use Rattle.ci_store.specs.Prelude.{Kept, indexed, without_record, Key, IndexChange}
+use Rattle.ci_store_rows.specs.Prelude.{the_schema, number, Stands, in_state, Makes, ShowsNone, RemovesUnreferred}
+use Rattle.sqlite_value.specs.declared.keys.Key.{Key as Order}
+use Rattle.sqlite_trees.specs.declared.store.Shape.TheVariants as shape
+use Rattle.ci_store_rows.proofs.Words.{◌≡◌, ◌≢◌, ℕ, pos, List, [], ◌∷◌, ◌++◌, map, filter, not, is_eq, Bool, true, false, ◌&&◌, cond, Some, None, Result, OnOk, IsTrue}
+use Rattle.ci_store_rows.proofs.Words.{slice_get, refl, sym, ap, subst, ◌∙◌, inl, inr, nat_cmp, AllByRecursion, list_any, cons_option, IsPlain, all_has, has_got, on_ok}
+use Rattle.ci_store_rows.proofs.Words.{IsWholeStep, MeansPut, MeansRemove, MeansSelect, shows_none, shown_same, ascending-filter, all-filter, Ordering}
+use Rattle.ci_store_rows.proofs.Records.{is, same_number, remove_stands}
+use Rattle.ci_store_rows.proofs.Shows.{held as table_held}
+use Rattle.ci_store_rows.proofs.Tables.{Kind, Changing, Numbered, numbered_sets}
 
 -- a table with a column that refers to another's number, and a query of the rows that refer to one
 pub record Referring : Type 0 where
@@ -69,6 +63,16 @@ abbrev pub cascades : Bool → List Referring → List ℕ → List Row → List
 cascades b [] parent olds = []
 cascades b (r ∷ rs) parent olds = cons_option (cond b (Some (cascade r.child r.place parent olds)) None) [] ++ cascades b rs parent olds
 
+-- what the removal of a row of the table sets off, where these tables refer to it
+abbrev pub SetsOff : Table → List Referring → Type 0
+SetsOff table rs = (olds : List Row) → works the_schema Enforced 0 table.tree olds [] ≡ cascades (list_any (loses plain (0 ∷ [])) (pairs olds [])) rs table.name olds
+
+-- what the texts mean that change a table whose key is a number
+pub record MeansChanges (at : ℕ) (table : Table) (rs : List Referring) (update insert delete : List ℕ) : Type 0 where
+  pub puts : MeansPut the_schema at table update insert (is 0 0 ∷ []) (numbered_sets table) (numbered_sets table)
+  pub removes : MeansRemove the_schema at table delete (is 0 0 ∷ [])
+  pub sets_off : SetsOff table rs
+
 -- the works of one table that refers twice are those of each
 pub twice : (b : Bool) (one other : Work) (more : List Work) → cons_option (cond b (Some one) None) (cons_option (cond b (Some other) None) []) ++ more ≡ cons_option (cond b (Some one) None) [] ++ (cons_option (cond b (Some other) None) [] ++ more)
 twice true one other more = refl
@@ -89,39 +93,26 @@ module _ (table : Table) (parent : List ℕ) (n : ℕ) (db mid : Trees) (olds : 
   each_childless false (r ∷ rs) apart lacks w h = each_childless false rs apart.1 lacks.1 w h
 
 -- the removal by a number, where no row refers to it, is a step of its own
-pub whole_if_unreferred : (table : Table) (parent : List ℕ) (rs : List Referring) → ((olds : List Row) → works the_schema Enforced 0 table.tree olds [] ≡ cascades (list_any (loses plain (0 ∷ [])) (pairs olds [])) rs parent olds)
-    → AllByRecursion (λ r. r.child.tree ≢ table.tree) rs → (n : ℕ) (db : Trees) → IsShaped shape.Table (db table.tree) → LacksEach rs n db → IsWholeStep the_schema table (is 0 0 ∷ []) (number n ∷ []) db
-whole_if_unreferred table parent rs works_are apart n db shaped lacks =
+whole_if_unreferred : (table : Table) (rs : List Referring) → SetsOff table rs → AllByRecursion (λ r. r.child.tree ≢ table.tree) rs → (n : ℕ) (db : Trees) → IsShaped shape.Table (db table.tree) → LacksEach rs n db → IsWholeStep the_schema table (is 0 0 ∷ []) (number n ∷ []) db
+whole_if_unreferred table rs sets_off apart n db shaped lacks =
     whole_if_childless the_schema table (is 0 0 ∷ []) (number n ∷ []) (pos n) db (λ r. refl) shaped
-    (λ olds mid are others w h. each_childless table parent n db mid olds are others (list_any (loses plain (0 ∷ [])) (pairs olds [])) rs apart lacks w (subst (λ l. Has l w) (works_are olds) h))
-
-pub shaped_in : (k : Kept) (db : Database) → Stands k db → (at : ℕ) (t : Table) → slice_get the_schema.tables at ≡ Some t → IsShaped shape.Table (db.trees t.tree)
-shaped_in k db stands at t there = (all_has (λ (t : Table). Holds t (rows_of k t.tree) db.trees) the_schema.tables t stands.inside.tables.holds (has_got the_schema.tables at t there)).shaped
+    (λ olds mid are others w h. each_childless table table.name n db mid olds are others (list_any (loses plain (0 ∷ [])) (pairs olds [])) rs apart lacks w (subst (λ l. Has l w) (sets_off olds) h))
 
 -- ---- from the tables' steps to the state's
 
 module _ {S : Type 0} (g : Ghosts S) (old new : Held S) where
-  -- what the removal of a row by its number does, where it does so as a step of its own
-  pub removed_alone : (at : ℕ) (table : Table) → slice_get the_schema.tables at ≡ Some table → (parent : List ℕ) (rs : List Referring)
-      → ((olds : List Row) → works the_schema Enforced 0 table.tree olds [] ≡ cascades (list_any (loses plain (0 ∷ [])) (pairs olds [])) rs parent olds) → AllByRecursion (λ r. r.child.tree ≢ table.tree) rs
-      → (delete : List ℕ) (id : ℕ) (k next : Kept)
-      → ((mid : Held S) (count : ℕ) → Stands k (state g mid).now → IsWholeStep the_schema table (is 0 0 ∷ []) (number id ∷ []) (state g mid).now.trees → Changes g delete (number id ∷ []) count mid new → Stands next (state g new).now)
-      → Stands k (state g old).now → RemovesUnreferred g (queries rs) delete (number id ∷ []) old new → Stands next (state g new).now
-  removed_alone at table there parent rs works_are apart delete id k next removes stands h =
-      let stands' = subst (Stands k) (unchanged_by g k id h.mid rs old stands h.none) stands in
-      let lacks = lacks_each g k id h.mid rs old stands h.none in
-      removes h.mid h.count stands' (whole_if_unreferred table parent rs works_are apart id (state g h.mid).now.trees (shaped_in k (state g h.mid).now stands' at table there) lacks) h.removed
-
   -- the removal of a record by its number
-  pub removed_numbered : {A : Type 0} (values : A → Row) (id_of : A → ℕ) (xs : List A) (id : ℕ) (k next : Kept) (at : ℕ) (table : Table) → slice_get the_schema.tables at ≡ Some table → rows_of k table.tree ≡ map values xs
-      → rows_of next table.tree ≡ map values (filter (λ x. not (is_eq (nat_cmp (id_of x) id))) xs) → IsAlike (rows_of k) (rows_of next) table → (IsRegular k → IsRegular next)
-      → ((x : A) → has_key (number id ∷ []) (values x) ≡ is_eq (nat_cmp (id_of x) id)) → ((r : Row) → picks (is 0 0 ∷ []) (number id ∷ []) r ≡ has_key (number id ∷ []) (image (places table) r))
-      → (delete : List ℕ) → MeansRemove the_schema at table delete (is 0 0 ∷ []) → (parent : List ℕ) (rs : List Referring)
-      → ((olds : List Row) → works the_schema Enforced 0 table.tree olds [] ≡ cascades (list_any (loses plain (0 ∷ [])) (pairs olds [])) rs parent olds) → AllByRecursion (λ r. r.child.tree ≢ table.tree) rs
-      → Stands k (state g old).now → RemovesUnreferred g (queries rs) delete (number id ∷ []) old new → Stands next (state g new).now
-  removed_numbered values id_of xs id k next at table there was gone alike regular keyed tested delete means parent rs works_are apart stands =
-      removed_alone at table there parent rs works_are apart delete id k next
-      (λ mid count stands' whole h. remove_stands values xs k next table was alike (regular stands.inside.regular) at delete (is 0 0 ∷ []) means (number id ∷ []) tested (λ x. is_eq (nat_cmp (id_of x) id)) keyed gone g mid new count stands' whole h) stands
+  pub removed_numbered : {A : Type 0} (kind : Kind A) {id_of : A → ℕ} (numbers : Numbered kind id_of) {cmp : A → A → Ordering} {holding : List A → Kept → Kept} {Also : A → Type 0} (changing : Changing kind cmp holding Also) (rs : List Referring) {update insert delete : List ℕ} → MeansChanges kind.at kind.table rs update insert delete
+      → AllByRecursion (λ r. r.child.tree ≢ kind.table.tree) rs → (id : ℕ) (k : Kept) → Stands k (state g old).now → RemovesUnreferred g (queries rs) delete (number id ∷ []) old new
+      → Stands (holding (filter (λ x. not (is_eq (nat_cmp (id_of x) id))) (kind.list k)) k) (state g new).now
+  removed_numbered kind {id_of} numbers {holding = holding} changing rs {delete = delete} means apart id k stands h =
+      let o = stands.inside.regular in
+      let held = changing.holds k o in
+      let stands' = subst (Stands k) (unchanged_by g k id h.mid rs old stands h.none) stands in
+      let whole = whole_if_unreferred kind.table rs means.sets_off apart id (state g h.mid).now.trees (table_held k (state g h.mid).now stands' kind.at kind.table kind.there).shaped (lacks_each g k id h.mid rs old stands h.none) in
+      remove_stands kind.values (kind.list k) k (holding (filter (λ x. not (is_eq (nat_cmp (id_of x) id))) (kind.list k)) k) kind.table (kind.was k) (changing.alike k _)
+      (changing.regular k _ (ascending-filter _ _ (kind.list k) held.0) (all-filter _ _ (kind.list k) held.1) o) kind.at delete (is 0 0 ∷ []) means.removes (number id ∷ []) (λ r. sym (numbers.tested id r))
+      (λ x. is_eq (nat_cmp (id_of x) id)) (λ x. numbers.keyed id x ∙ same_number (id_of x) id) (changing.now k _) g h.mid new h.count stands' whole h.removed
 
   -- the same removal by values that are the same
   pub by_key : {A E : Type 0} (result : Result A E) (texts : List (List ℕ)) (delete : List ℕ) {params row : Row} → params ≡ row → OnOk result (IsTrue new.in_transaction × RemovesUnreferred g texts delete params old new)

@@ -1,34 +1,21 @@
 -- What a query over one table shows of a state, and the records that its rows are read as.
-use Rattle.std.proofs.Common.{◌≡◌, ◌∙◌, ℕ, pos, List, [], ◌∷◌, ◌++◌, map, filter, reverse, find, take, drop, slice_get, Bool, true, false, is_eq, Ordering, Less, Equal, Greater}
-use Rattle.std.proofs.Common.{Option, Some, None, option_map, refl, sym, ap, subst, cond, inl, inr, IsPermutation, ◌<◌, ◌≤◌, ◌==◌, suc, length, min, nat_lt, ltb-false, ne_eqb}
-use Rattle.std.proofs.Common.{arith, nat_cmp}
-use Rattle.std.proofs.lemmas.Bool.{cond_both}
-use Rattle.std.specs.List.{AllByRecursion, AllZip, All, Contains, last_or}
-use Rattle.std.specs.Ordering.{ordering_then}
-use Rattle.std.specs.Cmp.{IsTotalOrder}
-use Rattle.std.specs.Cmp.Lexicographic.{slice_cmp}
-use Rattle.std.proofs.lemmas.List.{take-append-drop, take-map, take_all, length-take, append-nil, append_assoc}
-use Rattle.std.proofs.lemmas.List.Elements.{filter-append, All-from_recursion}
-use mathlib.Core.List.{reverse-cons}
-use Rattle.std.proofs.lemmas.Cmp.{on_total, then_total, nat_cmp_total, tied_back}
-use Rattle.std.proofs.lemmas.List.Sorted.{IsPermutation-sym, IsPermutation-trans, IsPermutation-map, IsPermutation-reverse, Contains-permutation}
-use Rattle.sqlite_trees.proofs.ListLemmas.{IsPermutation-filter}
-use Rattle.sqlite.specs.Collation.TheVariants.{Binary}
-use Rattle.sqlite_value.specs.declared.keys.Key.{Key}
+use Rattle.ci_store.proofs.Ordered.{selects_sorted}
 use Rattle.ci_store.specs.Prelude.{ascending, by_key, Text, Row, column, Term, col, eval_all, Output, output, output_cmp, key_cmp, limited, Table, Trees, Database, Shown}
 use Rattle.ci_store.specs.Prelude.{IsAscending, Has, Kept, Holds, image, places}
-use Rattle.sqlite_value.proofs.KeyLemmas.{by_key_total}
-use Rattle.sqlite_value.proofs.OrderLemmas.{value_cmp-Int, value_cmp-Text, then-Equal}
-use Rattle.sqlite.specs.State.{State as Seen}
-use Rattle.sqlite.proofs.Callers.{one_permutation, reads_as}
-use Rattle.sqlite_keyed.proofs.ListLemmas.{filter-map, filter_same, slice_get-filter, ascending-map, ascending_weaker, ascending-filter}
-use Rattle.sqlite_rules.proofs.ListLemmas.{all_has, all_from, has_got, has_filtered, has_left, has_contained, contains_had}
-use Rattle.ci_store.proofs.Writes.{perm_nil, map_nil, map_one}
-use Rattle.ci_store.proofs.Queries.{query, picks, no_limit, count_of, Answered, shows, answered, answered_to, map_map}
-use Rattle.ci_store.proofs.Selects.{MeansSelect, MeansSelectTo, selects}
-use Rattle.ci_store.proofs.Ordered.{no_key_total, selects_sorted}
-use Rattle.ci_store.proofs.Scalars.{int_nat}
+use Rattle.sqlite_value.specs.declared.keys.Key.{Key}
 use Rattle.ci_store_rows.specs.Prelude.{the_schema, number, Stands, rows_of, listed}
+use Rattle.sqlite.specs.State.{State as Seen}
+use Rattle.std.proofs.lemmas.List.{take-append-drop, take-map, take_all, length-take, append-nil, append_assoc}
+use Rattle.std.proofs.lemmas.List.Sorted.{IsPermutation-trans, IsPermutation-map, IsPermutation-sym, IsPermutation-reverse, Contains-permutation}
+use mathlib.Core.List.{reverse-cons}
+use Rattle.ci_store_rows.proofs.Words.{Binary, IsPermutation-filter, ◌≡◌, ◌∙◌, ℕ, pos, List, [], ◌∷◌, ◌++◌, map, filter, reverse, find, take, drop, slice_get, Bool, true}
+use Rattle.ci_store_rows.proofs.Words.{false, is_eq, Ordering, Less, Equal, Greater, Option, Some, None, option_map, refl, sym, ap, subst, cond, inl, inr, IsPermutation, ◌<◌}
+use Rattle.ci_store_rows.proofs.Words.{◌≤◌, ◌==◌, suc, length, min, nat_lt, ltb-false, ne_eqb, arith, nat_cmp, cond_both, AllByRecursion, AllZip, All, Contains, last_or}
+use Rattle.ci_store_rows.proofs.Words.{ordering_then, IsTotalOrder, slice_cmp, filter-append, All-from_recursion, on_total, then_total, nat_cmp_total, tied_back, by_key_total}
+use Rattle.ci_store_rows.proofs.Words.{value_cmp-Int, value_cmp-Text, then-Equal, one_permutation, reads_as, filter-map, filter_same, slice_get-filter, ascending-map}
+use Rattle.ci_store_rows.proofs.Words.{ascending_weaker, ascending-filter, all_has, all_from, has_got, has_filtered, has_left, perm_nil, map_nil, map_one, query, picks}
+use Rattle.ci_store_rows.proofs.Words.{no_limit, count_of, Answered, shows, answered, answered_to, map_map, MeansSelect, MeansSelectTo, selects, int_nat, all_weaker}
+use Rattle.ci_store_rows.proofs.Words.{filter_all, all_of, ascending-append, all-permutation, has_contained, contains_had}
 
 -- the columns of a row, in their order, and their names
 abbrev pub columns_of : Table → List Term
@@ -47,9 +34,6 @@ pair at im = (column im at ∷ [], im)
 abbrev pub by : ℕ → List (Term × Key)
 by place = (col 1 place, ascending Binary) ∷ []
 
-pub by_total : (tests columns : List Term) (tree place : ℕ) → IsTotalOrder (output_cmp (query tree tests columns (by place)))
-by_total tests columns tree place = on_total (λ (o : Output). o.0) (then_total (on_total (λ (r : Row). column r 0) (by_key_total (ascending Binary))) no_key_total)
-
 -- and by those at two places
 abbrev pub pair_of_two : ℕ → ℕ → Row → Output
 pair_of_two first second im = (column im first ∷ column im second ∷ [], im)
@@ -57,19 +41,16 @@ pair_of_two first second im = (column im first ∷ column im second ∷ [], im)
 abbrev pub by_two : ℕ → ℕ → List (Term × Key)
 by_two first second = (col 1 first, ascending Binary) ∷ (col 1 second, ascending Binary) ∷ []
 
-pub by_two_total : (tests columns : List Term) (tree first second : ℕ) → IsTotalOrder (output_cmp (query tree tests columns (by_two first second)))
-by_two_total tests columns tree first second =
-    on_total (λ (o : Output). o.0) (then_total (on_total (λ (r : Row). column r 0) (by_key_total (ascending Binary))) (then_total (on_total (λ (r : Row). column r 1) (by_key_total (ascending Binary))) no_more_total))
-  where
-    no_more_total : IsTotalOrder (key_cmp 2 [])
-    no_more_total = record { antisymm = λ x y. refl; trans = λ x y z p q. p; congr = λ x y z p. refl }
-
 -- the order turned round, by the column at a place of the row
 abbrev pub backward : ℕ → List (Term × Key)
 backward place = (col 1 place, record { collation = Binary; descending = true }) ∷ []
 
-pub backward_total : (tests columns : List Term) (tree place : ℕ) → IsTotalOrder (output_cmp (query tree tests columns (backward place)))
-backward_total tests columns tree place = on_total (λ (o : Output). o.0) (then_total (on_total (λ (r : Row). column r 0) (by_key_total (record { collation = Binary; descending = true }))) no_key_total)
+keys_total : (at : ℕ) (keys : List Key) → IsTotalOrder (key_cmp at keys)
+keys_total at [] = record { antisymm = λ x y. refl; trans = λ x y z p q. p; congr = λ x y z p. refl }
+keys_total at (key ∷ keys) = then_total (on_total (λ (r : Row). column r at) (by_key_total key)) (keys_total (suc at) keys)
+
+order_total : (tests columns : List Term) (tree : ℕ) (order : List (Term × Key)) → IsTotalOrder (output_cmp (query tree tests columns order))
+order_total tests columns tree order = on_total (λ (o : Output). o.0) (keys_total 0 (map (λ k. k.1) order))
 
 -- what an answer of a part of the columns has of the records of its table
 answers_part : (t : Table) (tests columns : List Term) (order : List (Term × Key)) (key : Row) (p : Row → Bool) → ((r : Row) → picks tests key r ≡ p (image (places t) r)) → (part : Row → Row) → ((r : Row) → eval_all columns (key ∷ r ∷ []) ≡ part (image (places t) r))
@@ -124,14 +105,14 @@ module _ {A : Type 0} (values : A → Row) (at : ℕ) (t : Table) (there : slice
       (all, subst (λ l. IsPermutation l all) those (answers_part t tests (columns_of t) order key p tested (λ im. im) showed old.now.trees (rows_of k t.tree) all (held k old.now stands at t there) whole), a.shown)
 
   -- of records that the table has, and that stand in an order, the first ones that a limit lets through
-  shows_in_order : (limit : Term) (order : List (Term × Key)) (total : IsTotalOrder (output_cmp (query t.tree tests (columns_of t) order))) (pair : Row → Output) (second : (im : Row) → (pair im).1 ≡ im)
+  shows_in_order : (limit : Term) (order : List (Term × Key)) (pair : Row → Output) (second : (im : Row) → (pair im).1 ≡ im)
       → (paired : (r : Row) → output (query t.tree tests (columns_of t) order) (key ∷ r ∷ []) ≡ pair (image (places t) r)) → MeansSelectTo limit the_schema t text tests (columns_of t) order (names_of t)
       → (ys : List A) → IsAscending (λ x y. output_cmp (query t.tree tests (columns_of t) order) (pair (values x)) (pair (values y)) ≡ Less) (filter passes ys)
       → (old new : Seen) → Stands k old.now → Holds t (map values ys) old.now.trees → Shown text key old new rows → rows ≡ limited (count_of limit key) (map values (filter passes ys))
-  shows_in_order limit order total pair second paired means ys up old new stands has h =
+  shows_in_order limit order pair second paired means ys up old new stands has h =
       let Up = λ (a b : Output). output_cmp (query t.tree tests (columns_of t) order) a b ≡ Less in
       let up' = ascending-map Up pair _ (ascending-map (λ a b. Up (pair a) (pair b)) values _ up) in
-      selects_sorted limit the_schema t text tests (columns_of t) order (names_of t) means key p tested pair paired second total old new (map values ys) rows stands.listed
+      selects_sorted limit the_schema t text tests (columns_of t) order (names_of t) means key p tested pair paired second (order_total tests (columns_of t) t.tree order) old new (map values ys) rows stands.listed
       has h (subst (λ l. IsAscending Up (map pair l)) (sym (filtered ys)) up')
       ∙ ap (limited (count_of limit key)) (filtered ys)
 
@@ -139,11 +120,11 @@ module _ {A : Type 0} (values : A → Row) (at : ℕ) (t : Table) (there : slice
   has_all old stands = subst (λ l. Holds t l old.now.trees) is (held k old.now stands at t there)
 
   -- and in an order, of them the first ones that a limit lets through
-  pub shows_ordered : (limit : Term) (order : List (Term × Key)) (total : IsTotalOrder (output_cmp (query t.tree tests (columns_of t) order))) (pair : Row → Output) (second : (im : Row) → (pair im).1 ≡ im)
+  pub shows_ordered : (limit : Term) (order : List (Term × Key)) (pair : Row → Output) (second : (im : Row) → (pair im).1 ≡ im)
       → (paired : (r : Row) → output (query t.tree tests (columns_of t) order) (key ∷ r ∷ []) ≡ pair (image (places t) r)) → MeansSelectTo limit the_schema t text tests (columns_of t) order (names_of t)
       → IsAscending (λ x y. output_cmp (query t.tree tests (columns_of t) order) (pair (values x)) (pair (values y)) ≡ Less) (filter passes xs)
       → (old new : Seen) → Stands k old.now → Shown text key old new rows → rows ≡ limited (count_of limit key) (map values (filter passes xs))
-  shows_ordered limit order total pair second paired means up old new stands h = shows_in_order limit order total pair second paired means xs up old new stands (has_all old stands) h
+  shows_ordered limit order pair second paired means up old new stands h = shows_in_order limit order pair second paired means xs up old new stands (has_all old stands) h
 
   -- and in the order turned round, by a column
   pub shows_backward : (limit : Term) (place shown_at : ℕ) (paired : (r : Row) → output (query t.tree tests (columns_of t) (backward place)) (key ∷ r ∷ []) ≡ pair shown_at (image (places t) r)) → MeansSelectTo limit the_schema t text tests (columns_of t) (backward place) (names_of t)
@@ -151,14 +132,14 @@ module _ {A : Type 0} (values : A → Row) (at : ℕ) (t : Table) (there : slice
       → (old new : Seen) → Stands k old.now → Shown text key old new rows → rows ≡ limited (count_of limit key) (map values (filter passes (reverse xs)))
   shows_backward limit place shown_at paired means up old new stands h =
       let has = has_all old stands in
-      shows_in_order limit (backward place) (backward_total tests (columns_of t) t.tree place) (pair shown_at) (λ im. refl) paired means (reverse xs) up old new stands
+      shows_in_order limit (backward place) (pair shown_at) (λ im. refl) paired means (reverse xs) up old new stands
       (record { shaped = has.shaped; same = IsPermutation-trans _ _ _ has.same (IsPermutation-map values _ _ (IsPermutation-reverse xs)) }) h
 
   -- all of them, in the order of a column
   pub shows_sorted : (place shown_at : ℕ) (paired : (r : Row) → output (query t.tree tests (columns_of t) (by place)) (key ∷ r ∷ []) ≡ pair shown_at (image (places t) r)) → MeansSelect the_schema t text tests (columns_of t) (by place) (names_of t)
       → IsAscending (λ x y. output_cmp (query t.tree tests (columns_of t) (by place)) (pair shown_at (values x)) (pair shown_at (values y)) ≡ Less) (filter passes xs)
       → (old new : Seen) → Stands k old.now → Shown text key old new rows → rows ≡ map values (filter passes xs)
-  shows_sorted place shown_at = shows_ordered no_limit (by place) (by_total tests (columns_of t) t.tree place) (pair shown_at) (λ im. refl)
+  shows_sorted place shown_at = shows_ordered no_limit (by place) (pair shown_at) (λ im. refl)
 
 -- ---- the records that the rows are read as
 
@@ -273,8 +254,7 @@ module _ {A : Type 0} (is_row : Row → A → Type 0) (values : A → Row) (pass
 
 -- where all pass
 pub every : {A : Type 0} (xs : List A) → filter (λ x. true) xs ≡ xs
-every [] = refl
-every (x ∷ xs) = ap (λ l. x ∷ l) (every xs)
+every xs = filter_all (λ x. true) xs (all_of (λ x. true ≡ true) (λ x. refl) xs)
 
 -- the one that a query of one row shows
 pub first_of_one : {A : Type 0} (xs : List A) (found : Option A) → listed found ≡ take 1 xs → found ≡ slice_get xs 0
@@ -290,11 +270,7 @@ last_is_first p (x ∷ xs) zs =
     ap (λ l. slice_get (l ++ zs) 0) (ap (filter p) (reverse-cons x xs) ∙ filter-append p (reverse xs) (x ∷ []))
     ∙ ap (λ l. slice_get l 0) (append_assoc (filter p (reverse xs)) (filter p (x ∷ [])) zs)
     ∙ last_is_first p xs (filter p (x ∷ []) ++ zs)
-    ∙ one (p x)
-  where
-    one : (b : Bool) → last_or (slice_get (cond b (x ∷ []) [] ++ zs) 0) (filter p xs) ≡ last_or (slice_get zs 0) (cond b (x ∷ filter p xs) (filter p xs))
-    one true = refl
-    one false = refl
+    ∙ elim (p x) as (λ b. last_or (slice_get (cond b (x ∷ []) [] ++ zs) 0) (filter p xs) ≡ last_or (slice_get zs 0) (cond b (x ∷ filter p xs) (filter p xs))) [ true ↦ refl | false ↦ refl ]
 
 pub last_of_those : {A : Type 0} (p : A → Bool) (xs : List A) → slice_get (filter p (reverse xs)) 0 ≡ last_or None (filter p xs)
 last_of_those p xs = ap (λ l. slice_get l 0) (sym (append-nil (filter p (reverse xs)))) ∙ last_is_first p xs []
@@ -387,32 +363,17 @@ rising_numbers id passes xs up = ascending_weaker _ _ (λ x y h. rising_number (
 
 -- ---- rows that fall by a column, where their list is turned round
 
-module _ {X : Type 0} (P : X → Type 0) where
-  all_behind : (ys : List X) (x : X) → AllByRecursion P ys → P x → AllByRecursion P (ys ++ x ∷ [])
-  all_behind [] x all last = (last, tt)
-  all_behind (y ∷ ys) x all last = (all.0, all_behind ys x all.1 last)
-
-  all_turned : (xs : List X) → AllByRecursion P xs → AllByRecursion P (reverse xs)
-  all_turned [] all = tt
-  all_turned (x ∷ xs) all = subst (AllByRecursion P) (sym (reverse-cons x xs)) (all_behind (reverse xs) x (all_turned xs all.1) all.0)
-
-module _ {X : Type 0} (Up : X → X → Type 0) where
-  ascend_behind : (ys : List X) (x : X) → IsAscending Up ys → AllByRecursion (λ y. Up y x) ys → IsAscending Up (ys ++ x ∷ [])
-  ascend_behind [] x up all = (tt, tt)
-  ascend_behind (y ∷ ys) x up all = (all_behind (Up y) ys x up.0 all.0, ascend_behind ys x up.1 all.1)
-
 ascend_turned : {X : Type 0} (Up : X → X → Type 0) (xs : List X) → IsAscending Up xs → IsAscending (λ x y. Up y x) (reverse xs)
 ascend_turned Up [] up = tt
 ascend_turned Up (x ∷ xs) up =
-    subst (IsAscending (λ a b. Up b a)) (sym (reverse-cons x xs)) (ascend_behind (λ a b. Up b a) (reverse xs) x (ascend_turned Up xs up.1) (all_turned (Up x) xs up.0))
+    subst (IsAscending (λ a b. Up b a)) (sym (reverse-cons x xs)) (ascending-append (λ a b. Up b a) (reverse xs) (x ∷ []) (ascend_turned Up xs up.1) (tt, tt)
+    (all-permutation (λ y. Up x y × Unit) xs (reverse xs) (IsPermutation-reverse xs) (all_weaker (Up x) (λ y. Up x y × Unit) (λ y h. (h, tt)) xs up.0)))
 
 pub filter-reverse : {X : Type 0} (p : X → Bool) (xs : List X) → filter p (reverse xs) ≡ reverse (filter p xs)
 filter-reverse p [] = refl
-filter-reverse p (x ∷ xs) = ap (filter p) (reverse-cons x xs) ∙ filter-append p (reverse xs) (x ∷ []) ∙ ap (λ l. l ++ filter p (x ∷ [])) (filter-reverse p xs) ∙ one (p x)
-  where
-    one : (b : Bool) → reverse (filter p xs) ++ cond b (x ∷ []) [] ≡ reverse (cond b (x ∷ filter p xs) (filter p xs))
-    one true = sym (reverse-cons x (filter p xs))
-    one false = append-nil (reverse (filter p xs))
+filter-reverse p (x ∷ xs) =
+    ap (filter p) (reverse-cons x xs) ∙ filter-append p (reverse xs) (x ∷ []) ∙ ap (λ l. l ++ filter p (x ∷ [])) (filter-reverse p xs)
+    ∙ elim (p x) as (λ b. reverse (filter p xs) ++ cond b (x ∷ []) [] ≡ reverse (cond b (x ∷ filter p xs) (filter p xs))) [ true ↦ sym (reverse-cons x (filter p xs)) | false ↦ append-nil (reverse (filter p xs)) ]
 
 -- those that pass fall there, where they rise
 pub falling_within : {X : Type 0} (id : X → ℕ) (passes : X → Bool) (xs : List X) → IsAscending (λ x y. nat_cmp (id x) (id y) ≡ Less) (filter passes xs)

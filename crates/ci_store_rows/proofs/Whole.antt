@@ -1,10 +1,8 @@
 -- A connection that is open, outside a transaction, shows what alone a stop leaves.
-use Rattle.std.proofs.Common.{◌≡◌, ◌≤◌, refl, length, nat_le}
-use Rattle.std.proofs.lemmas.Bool.{leb-true}
-use Rattle.ci_store.specs.Prelude.{Table, Schema, Trees, Database, IsDatabase, IsSound, Has, Kept}
-use Rattle.sqlite_rules.proofs.ListLemmas.{test_has}
 use Rattle.ci_store.proofs.OneSchema.{one_schema}
+use Rattle.ci_store.specs.Prelude.{Table, Schema, Trees, Database, IsDatabase, IsSound, Has, Kept}
 use Rattle.ci_store_rows.specs.Prelude.{the_schema, StandsIn, Stands}
+use Rattle.ci_store_rows.proofs.Words.{◌≡◌, ◌≤◌, refl, length, nat_le, leb-true, test_has}
 
 few_uniques : (t : Table) → Has the_schema.tables t → length t.uniques ≤ 1
 few_uniques t h = leb-true _ _ (test_has (λ (t : Table). nat_le (length t.uniques) 1) the_schema.tables t refl h)

@@ -1,5 +1,5 @@
 -- The tables and the indexes, as their texts define them.
-use Rattle.std.specs.Prelude.{ℕ, Bool, true, false, List, [], ◌∷◌, map, Some, None, codes}
+use Rattle.std.specs.Prelude.{ℕ, Bool, true, false, List, [], ◌∷◌, map, Option, Some, None, codes}
 use Rattle.sqlite.specs.Collation.TheVariants.{Binary}
 use Rattle.ci_store.specs.Prelude.{Null, Table, Schema, Index, Column, Reference, Action, NoAction, Cascade, plain, automatic, Kind, Integer}
 use Rattle.sqlite.specs.Kind.TheVariants.{Text, Blob}
@@ -12,14 +12,21 @@ column name kind not_null = record { name = name; kind = kind; is_strict = true;
 abbrev refers : ℕ → List ℕ → Action → Reference
 refers place parent on_delete = record { columns = place ∷ []; parent = parent; parent_columns = codes "id" ∷ []; on_delete = on_delete; on_update = NoAction; is_deferred = false }
 
--- a table whose key is its first column, a number: its name, tree and columns, what else is unique, and what it refers to
-abbrev numbered : List ℕ → ℕ → List Column → List (List ℕ) → List Reference → Table
-numbered name tree columns uniques references = record {
+-- a column that is NOT NULL
+abbrev integer : List ℕ → Column
+integer name = column name Integer true
+
+abbrev text : List ℕ → Column
+text name = column name Text true
+
+-- a table: its name, tree and columns, the place of a column that is its number, its key, what is unique, and what it refers to
+abbrev made : List ℕ → ℕ → List Column → Option ℕ → List ℕ → List (List ℕ) → List Reference → Table
+made name tree columns key primary uniques references = record {
   name = name;
   tree = tree;
   columns = columns;
-  key = Some 0;
-  primary = 0 ∷ [];
+  key = key;
+  primary = primary;
   uniques = uniques;
   orders = map (λ _. plain) uniques;
   checks = [];
@@ -29,43 +36,23 @@ numbered name tree columns uniques references = record {
   is_counted = false;
 }
 
+-- a table whose key is its first column, a number
+abbrev numbered : List ℕ → ℕ → List Column → List (List ℕ) → List Reference → Table
+numbered name tree columns = made name tree columns (Some 0) (0 ∷ [])
+
 -- a table whose key is the columns at these places of its rows, after the rowid
 abbrev keyed : List ℕ → ℕ → List Column → List ℕ → List Reference → Table
-keyed name tree columns primary references = record {
-  name = name;
-  tree = tree;
-  columns = columns;
-  key = None;
-  primary = primary;
-  uniques = primary ∷ [];
-  orders = plain ∷ [];
-  checks = [];
-  references = references;
-  computed = [];
-  stamps = record { places = []; terms = []; formats = [] };
-  is_counted = false;
-}
+keyed name tree columns primary = made name tree columns None primary (primary ∷ [])
 
 abbrev pub meta : Table
-meta =
-    keyed (codes "meta") 0
-    (column (codes "key") Text true
-    ∷ column (codes "num") Integer true
-    ∷ [])
-    (1 ∷ []) []
+meta = keyed (codes "meta") 0 (text (codes "key") ∷ integer (codes "num") ∷ []) (1 ∷ []) []
 
 abbrev pub meta_index_1 : Index
 meta_index_1 = automatic meta 0 (1 ∷ []) 1
 
 abbrev pub project : Table
 project =
-    numbered (codes "project") 2
-    (column (codes "id") Integer false
-    ∷ column (codes "name") Text true
-    ∷ column (codes "token") Text true
-    ∷ column (codes "file") Text false
-    ∷ [])
-    ((3 ∷ []) ∷ []) []
+    numbered (codes "project") 2 (column (codes "id") Integer false ∷ text (codes "name") ∷ text (codes "token") ∷ column (codes "file") Text false ∷ []) ((3 ∷ []) ∷ []) []
 
 abbrev pub project_index_1 : Index
 project_index_1 = automatic project 0 (3 ∷ []) 3
@@ -73,14 +60,8 @@ project_index_1 = automatic project 0 (3 ∷ []) 3
 abbrev pub runner : Table
 runner =
     numbered (codes "runner") 4
-    (column (codes "id") Integer false
-    ∷ column (codes "name") Text true
-    ∷ column (codes "token") Text true
-    ∷ column (codes "project") Integer false
-    ∷ column (codes "tags") Text true
-    ∷ column (codes "untagged") Integer true
-    ∷ column (codes "paused") Integer true
-    ∷ [])
+    (column (codes "id") Integer false ∷ text (codes "name") ∷ text (codes "token") ∷ column (codes "project") Integer false ∷ text (codes "tags")
+    ∷ integer (codes "untagged") ∷ integer (codes "paused") ∷ [])
     ((3 ∷ []) ∷ []) (refers 4 (codes "project") NoAction ∷ [])
 
 abbrev pub runner_index_1 : Index
@@ -89,41 +70,22 @@ runner_index_1 = automatic runner 0 (3 ∷ []) 5
 abbrev pub pipeline : Table
 pipeline =
     numbered (codes "pipeline") 6
-    (column (codes "id") Integer false
-    ∷ column (codes "project") Integer true
-    ∷ column (codes "ref") Text true
-    ∷ column (codes "kind") Integer true
-    ∷ column (codes "source") Integer true
-    ∷ column (codes "created") Integer true
-    ∷ [])
+    (column (codes "id") Integer false ∷ integer (codes "project") ∷ text (codes "ref") ∷ integer (codes "kind") ∷ integer (codes "source")
+    ∷ integer (codes "created") ∷ [])
     [] (refers 2 (codes "project") NoAction ∷ [])
 
 abbrev pub job : Table
 job =
     numbered (codes "job") 7
-    (column (codes "id") Integer false
-    ∷ column (codes "pipeline") Integer true
-    ∷ column (codes "pos") Integer true
-    ∷ column (codes "name") Text true
-    ∷ column (codes "stage") Text true
-    ∷ column (codes "spec") Text true
-    ∷ column (codes "played") Integer true
-    ∷ column (codes "cancelled") Integer true
-    ∷ column (codes "aside") Integer true
-    ∷ [])
+    (column (codes "id") Integer false ∷ integer (codes "pipeline") ∷ integer (codes "pos") ∷ text (codes "name") ∷ text (codes "stage")
+    ∷ text (codes "spec") ∷ integer (codes "played") ∷ integer (codes "cancelled") ∷ integer (codes "aside") ∷ [])
     [] (refers 2 (codes "pipeline") Cascade ∷ [])
 
 abbrev pub job_pipeline : Index
 job_pipeline = record { name = codes "job_pipeline"; tree = 8; table = 7; columns = 2 ∷ []; order = plain; is_unique = false }
 
 abbrev pub jobvar : Table
-jobvar =
-    keyed (codes "jobvar") 9
-    (column (codes "job") Integer true
-    ∷ column (codes "key") Text true
-    ∷ column (codes "value") Text true
-    ∷ [])
-    (1 ∷ 2 ∷ []) (refers 1 (codes "job") Cascade ∷ [])
+jobvar = keyed (codes "jobvar") 9 (integer (codes "job") ∷ text (codes "key") ∷ text (codes "value") ∷ []) (1 ∷ 2 ∷ []) (refers 1 (codes "job") Cascade ∷ [])
 
 abbrev pub jobvar_index_1 : Index
 jobvar_index_1 = automatic jobvar 0 (1 ∷ 2 ∷ []) 10
@@ -131,16 +93,8 @@ jobvar_index_1 = automatic jobvar 0 (1 ∷ 2 ∷ []) 10
 abbrev pub attempt : Table
 attempt =
     numbered (codes "attempt") 11
-    (column (codes "id") Integer false
-    ∷ column (codes "job") Integer true
-    ∷ column (codes "runner") Integer true
-    ∷ column (codes "token") Text true
-    ∷ column (codes "granted") Integer true
-    ∷ column (codes "seen") Integer true
-    ∷ column (codes "state") Integer true
-    ∷ column (codes "cause") Integer false
-    ∷ column (codes "exit") Integer false
-    ∷ [])
+    (column (codes "id") Integer false ∷ integer (codes "job") ∷ integer (codes "runner") ∷ text (codes "token") ∷ integer (codes "granted")
+    ∷ integer (codes "seen") ∷ integer (codes "state") ∷ column (codes "cause") Integer false ∷ column (codes "exit") Integer false ∷ [])
     [] (refers 2 (codes "job") Cascade ∷ refers 3 (codes "runner") NoAction ∷ [])
 
 abbrev pub attempt_job : Index
@@ -152,24 +106,14 @@ attempt_state = record { name = codes "attempt_state"; tree = 13; table = 11; co
 -- blocks of traces
 abbrev pub piece : Table
 piece =
-    keyed (codes "piece") 14
-    (column (codes "attempt") Integer true
-    ∷ column (codes "seq") Integer true
-    ∷ column (codes "bytes") Blob true
-    ∷ [])
-    (1 ∷ 2 ∷ []) (refers 1 (codes "attempt") Cascade ∷ [])
+    keyed (codes "piece") 14 (integer (codes "attempt") ∷ integer (codes "seq") ∷ column (codes "bytes") Blob true ∷ []) (1 ∷ 2 ∷ []) (refers 1 (codes "attempt") Cascade ∷ [])
 
 abbrev pub piece_index_1 : Index
 piece_index_1 = automatic piece 0 (1 ∷ 2 ∷ []) 15
 
 -- the job of the second column is one that the first one's waits for
 abbrev pub need : Table
-need =
-    keyed (codes "need") 16
-    (column (codes "job") Integer true
-    ∷ column (codes "pred") Integer true
-    ∷ [])
-    (1 ∷ 2 ∷ []) (refers 1 (codes "job") Cascade ∷ refers 2 (codes "job") Cascade ∷ [])
+need = keyed (codes "need") 16 (integer (codes "job") ∷ integer (codes "pred") ∷ []) (1 ∷ 2 ∷ []) (refers 1 (codes "job") Cascade ∷ refers 2 (codes "job") Cascade ∷ [])
 
 abbrev pub need_index_1 : Index
 need_index_1 = automatic need 0 (1 ∷ 2 ∷ []) 17
@@ -180,11 +124,7 @@ need_pred = record { name = codes "need_pred"; tree = 18; table = 16; columns = 
 abbrev pub board : Table
 board =
     numbered (codes "board") 19
-    (column (codes "job") Integer false
-    ∷ column (codes "status") Integer true
-    ∷ column (codes "open") Integer true
-    ∷ column (codes "failed") Integer true
-    ∷ column (codes "barred") Integer true
+    (column (codes "job") Integer false ∷ integer (codes "status") ∷ integer (codes "open") ∷ integer (codes "failed") ∷ integer (codes "barred")
     ∷ [])
     [] (refers 0 (codes "job") Cascade ∷ [])
 
@@ -193,13 +133,7 @@ abbrev pub board_status : Index
 board_status = record { name = codes "board_status"; tree = 20; table = 19; columns = 2 ∷ 0 ∷ []; order = plain; is_unique = false }
 
 abbrev pub variable : Table
-variable =
-    keyed (codes "variable") 21
-    (column (codes "project") Integer true
-    ∷ column (codes "key") Text true
-    ∷ column (codes "value") Text true
-    ∷ [])
-    (1 ∷ 2 ∷ []) (refers 1 (codes "project") NoAction ∷ [])
+variable = keyed (codes "variable") 21 (integer (codes "project") ∷ text (codes "key") ∷ text (codes "value") ∷ []) (1 ∷ 2 ∷ []) (refers 1 (codes "project") NoAction ∷ [])
 
 abbrev pub variable_index_1 : Index
 variable_index_1 = automatic variable 0 (1 ∷ 2 ∷ []) 22
@@ -208,10 +142,7 @@ variable_index_1 = automatic variable 0 (1 ∷ 2 ∷ []) 22
 abbrev pub holder : Table
 holder =
     keyed (codes "holder") 23
-    (column (codes "project") Integer true
-    ∷ column (codes "grp") Text true
-    ∷ column (codes "attempt") Integer true
-    ∷ [])
+    (integer (codes "project") ∷ text (codes "grp") ∷ integer (codes "attempt") ∷ [])
     (1 ∷ 2 ∷ []) (refers 1 (codes "project") NoAction ∷ refers 3 (codes "attempt") Cascade ∷ [])
 
 abbrev pub holder_index_1 : Index
@@ -234,13 +165,7 @@ pipeline_created = record { name = codes "pipeline_created"; tree = 28; table = 
 
 -- the process modes of resource groups that aren't unordered
 abbrev pub mode : Table
-mode =
-    keyed (codes "mode") 29
-    (column (codes "project") Integer true
-    ∷ column (codes "grp") Text true
-    ∷ column (codes "mode") Integer true
-    ∷ [])
-    (1 ∷ 2 ∷ []) (refers 1 (codes "project") NoAction ∷ [])
+mode = keyed (codes "mode") 29 (integer (codes "project") ∷ text (codes "grp") ∷ integer (codes "mode") ∷ []) (1 ∷ 2 ∷ []) (refers 1 (codes "project") NoAction ∷ [])
 
 abbrev pub mode_index_1 : Index
 mode_index_1 = automatic mode 0 (1 ∷ 2 ∷ []) 30

@@ -1,6 +1,6 @@
-use Rattle.serde_json.specs.View.{view}
-use Rattle.ci_store_rows.proofs.JsonReading.{spec_read}
+use Rattle.ci_store_rows.proofs.JsonReading.{same_read}
+use Rattle.ci_store_rows.proofs.Reading.{if_ok}
 use Rattle.ci_store_rows.proofs.json.options.read_spec.Goals as goal
 
 pub returns : goal.returns
-returns c = spec_read _ c.args.text.now (view c.in_ok-value.value) c.in_ok-value.ensures c.spec_of.ensures
+returns c = if_ok c.spec_of.result (λ it same other reads. same other (same_read c.args.text.now _ _ c.in_ok-value.ensures reads)) c.spec_of.ensures

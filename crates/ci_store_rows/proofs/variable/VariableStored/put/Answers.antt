@@ -1,14 +1,13 @@
-use Rattle.std.proofs.Common.{[], ◌∷◌, subst, ◌∙◌}
-use Rattle.ci_store.specs.Prelude.{Text, bound_value, HasPut}
-use Rattle.ci_store.proofs.Scalars.{on_ok}
-use Rattle.ci_store_rows.specs.Prelude.{UPDATE_VARIABLE, INSERT_VARIABLE, number}
+use Rattle.std.proofs.Common.{[], ◌∷◌, ◌∙◌}
+use Rattle.ci_store.specs.Prelude.{Text, bound_value}
+use Rattle.ci_store_rows.specs.Prelude.{number}
 use Rattle.ci_store_rows.proofs.Variables.{variable_puts}
 use Rattle.ci_store_rows.proofs.variable.VariableStored.put.Goals as goal
 
 pub returns-clause-makes : goal.returns-clause-makes
 returns-clause-makes g c clean inside =
-    let old = c.args.tx.now.conn.now in
-    let new = c.put.new.tx.conn.now in
     let x = c.args.self.now in
-    let row = (λ i. bound_value (c.in_ok-project.ensures i) ∷ bound_value (c.text.ensures i) ∷ bound_value (c.text-2.ensures i) ∷ []) ∙ (λ i. number x.project ∷ Text x.key ∷ Text x.value ∷ []) in
-    on_ok c.put.result (λ ran. (ran.0, λ k stands. variable_puts g.S.Store old new x k stands (subst (λ row. HasPut g.S.Store UPDATE_VARIABLE.now INSERT_VARIABLE.now row old new) row ran.1))) (c.put.ensures.put clean inside)
+    let row =
+    (λ i. bound_value (c.in_ok-project.ensures i) ∷ bound_value (c.text.ensures i) ∷ bound_value (c.text-2.ensures i) ∷ [])
+    ∙ (λ i. number x.project ∷ Text x.key ∷ Text x.value ∷ []) in
+    variable_puts x _ _ _ g.S.Store c.args.tx.now.conn.now c.put.new.tx.conn.now c.put.result _ row (c.put.ensures.put clean inside)
