@@ -7,6 +7,7 @@ use Rattle.std.proofs.lemmas.List.{length-take, length-drop, drop-drop, drop_all
 use Rattle.std.proofs.lemmas.List.FromFn.{map-range_with_len_more, take-map-range_with_len, length-map-range_with_len}
 use Rattle.std.proofs.lemmas.List.Sorted.{IsPermutation-refl, IsPermutation-trans, IsPermutation-cons, IsPermutation-to_front, IsPermutation-append_left}
 use Rattle.std.proofs.lemmas.List.Sorted.{IsPermutation-append_right, IsPermutation-append_comm, IsPermutation-sym}
+use Rattle.sqlite_keyed.proofs.ListLemmas.{map-map, map_back, map_same}
 use Rattle.ci_store_rows.proofs.Words.{◌≡◌, ◌≢◌, ◌∙◌, ◌<◌, ◌≤◌, ◌==◌, ◌&&◌, ℕ, zero, suc, ◌+◌, ◌-◌, ◌*◌, ◌%◌, List, [], ◌∷◌, ◌++◌, map, filter, find, take, drop, length, min}
 use Rattle.ci_store_rows.proofs.Words.{Bool, true, false, not, cond, is_eq, is_lt, Ordering, Less, Equal, Greater, Option, Some, None, refl, sym, ap, subst, arith}
 use Rattle.ci_store_rows.proofs.Words.{IsPermutation, ne_eqb, length-append, IfSome, nat_cmp, AllByRecursion, flat_map, range_with_len, last_or, ordering_reverse}
@@ -258,28 +259,19 @@ its_last t b last = go (block_count (length t.bytes)) refl last
 
 -- ---- what is said of all blocks of a trace
 
-sizes_from : (bytes : List ℕ) (n a count : ℕ) → map (λ b. length b.bytes) (map (block n bytes) (range_with_len a count)) ≡ map (λ seq. min BLOCK_BYTES (length bytes - seq * BLOCK_BYTES)) (range_with_len a count)
-sizes_from bytes n a zero = refl
-sizes_from bytes n a (suc count) =
-    let here : length (block_at bytes a) ≡ min BLOCK_BYTES (length bytes - a * BLOCK_BYTES) = length-take BLOCK_BYTES (drop (a * BLOCK_BYTES) bytes) ∙ ap (min BLOCK_BYTES) (length-drop (a * BLOCK_BYTES) bytes) in
-    let more = sizes_from bytes n (a + 1) count in
-    λ i. here i ∷ more i
-
 -- how many bytes each block has where the trace has so many
 abbrev pub sizes_for : ℕ → List ℕ
 sizes_for size = map (λ seq. min BLOCK_BYTES (size - seq * BLOCK_BYTES)) (range_with_len 0 (block_count size))
 
 pub sizes : (t : Trace) (size : ℕ) → length t.bytes ≡ size → block_sizes t ≡ sizes_for size
-sizes t size is = sizes_from t.bytes t.attempt 0 (block_count (length t.bytes)) ∙ ap sizes_for is
-
-numbered_from : (bytes : List ℕ) (n a count : ℕ) → map (λ b. b.seq) (map (block n bytes) (range_with_len a count)) ≡ range_with_len a count
-numbered_from bytes n a zero = refl
-numbered_from bytes n a (suc count) = ap (λ l. a ∷ l) (numbered_from bytes n (a + 1) count)
+sizes t size is =
+    map-map (λ (b : Block). length b.bytes) (block t.attempt t.bytes) _
+    ∙ map_same _ _ (λ at. length-take BLOCK_BYTES (drop (at * BLOCK_BYTES) t.bytes) ∙ ap (min BLOCK_BYTES) (length-drop (at * BLOCK_BYTES) t.bytes)) (range_with_len 0 (block_count (length t.bytes))) ∙ ap sizes_for is
 
 pub numbered : (t : Trace) → map (λ b. b.seq) (blocks_of t) ≡ range_with_len 0 (length (blocks_of t))
 numbered t =
-    let count = block_count (length t.bytes) in
-    numbered_from t.bytes t.attempt 0 count ∙ ap (range_with_len 0) (sym (length-map-range_with_len (block t.attempt t.bytes) 0 count))
+    map_back (block t.attempt t.bytes) (λ b. b.seq) (λ at. refl) (range_with_len 0 (block_count (length t.bytes)))
+    ∙ ap (range_with_len 0) (sym (length-map-range_with_len (block t.attempt t.bytes) 0 (block_count (length t.bytes))))
 
 full_from : (bytes : List ℕ) (n a count : ℕ) → (a + count) * BLOCK_BYTES ≤ length bytes → AllByRecursion (λ b. length b.bytes ≡ BLOCK_BYTES) (map (block n bytes) (range_with_len a count))
 full_from bytes n a zero low = tt
@@ -293,12 +285,8 @@ full t =
     let front : take (length (blocks_of t) - 1) (blocks_of t) ≡ first_blocks t.attempt t.bytes (count - 1) = ap (λ n. take (n - 1) (blocks_of t)) long ∙ take-map-range_with_len (block t.attempt t.bytes) 0 count (count - 1) (omega arith) in
     subst (All (λ b. length b.bytes ≡ BLOCK_BYTES)) (sym front) (All-from_recursion _ _ (full_from t.bytes t.attempt 0 (count - 1) (omega arith)))
 
-of_one_from : (bytes : List ℕ) (n a count : ℕ) → AllByRecursion (λ b. b.attempt ≡ n) (map (block n bytes) (range_with_len a count))
-of_one_from bytes n a zero = tt
-of_one_from bytes n a (suc count) = (refl, of_one_from bytes n (a + 1) count)
-
 pub of_one : (t : Trace) → All (λ b. b.attempt ≡ t.attempt) (blocks_of t)
-of_one t = All-from_recursion _ _ (of_one_from t.bytes t.attempt 0 (block_count (length t.bytes)))
+of_one t = All-from_recursion _ _ (all-map (λ b. b.attempt ≡ t.attempt) (block t.attempt t.bytes) (λ at. refl) (range_with_len 0 (block_count (length t.bytes))))
 
 pub last_within : (t : Trace) → IfSome (last_block t) (λ b. (1 ≤ length b.bytes) × (length b.bytes ≤ BLOCK_BYTES))
 last_within t = go (last_block t) refl

@@ -30,9 +30,8 @@ same_texts xs ys h = let inner : strings xs ≡ strings ys = cc in same_mapped s
 
 pub same_group : (a b : Option (List ℕ)) → group_data a ≡ group_data b → a ≡ b
 same_group None None h = refl
-same_group None (Some y) h = cc
-same_group (Some x) None h = cc
 same_group (Some x) (Some y) h = cc
+same_group a b h = cc
 
 pub same_allow : (a b : AllowFailure) → allow_data a ≡ allow_data b → a ≡ b
 same_allow No No h = refl

@@ -1,13 +1,13 @@
 -- The statements that write `meta`.
-use Rattle.ci_store.specs.Prelude.{Value, Null, Text, plain, is_null, value_cmp, equal, agree, Row, column, Term, lit, col, cast, Integer, everything, understood, Ghosts, Held}
+use Rattle.ci_store.specs.Prelude.{Null, Text, plain, is_null, value_cmp, equal, agree, Row, column, Term, lit, col, cast, Integer, everything, understood, Ghosts, Held}
 use Rattle.ci_store.specs.Prelude.{state, Kept, with_next, Numbers, Counter, image, places, without, Changes}
 use Rattle.ci_store_rows.specs.Prelude.{UPDATE_META, INSERT_META, the_schema, meta, meta_index_1, meta_row, meta_rows, counter_key, rows_by_tree, rows_of, Stands}
 use Rattle.sqlite_sql.specs.Ops.{binary}
 use Rattle.std.proofs.lemmas.List.Sorted.{IsPermutation-middle, IsPermutation-sym}
-use Rattle.ci_store_rows.proofs.Words.{◌≡◌, ◌∙◌, ℕ, pos, List, [], ◌∷◌, Bool, true, false, ◌&&◌, cond, refl, sym, inl, IsPermutation, drop, Binary, first_key-plain, MeansPut}
+use Rattle.ci_store_rows.proofs.Words.{◌≡◌, ◌∙◌, ℕ, pos, List, [], ◌∷◌, true, ◌&&◌, refl, sym, inl, IsPermutation, drop, Binary, first_key-plain, MeansPut}
 use Rattle.ci_store_rows.proofs.Words.{GivesRecord, updates_one, absent_unique, cast_int, take}
 use Rattle.ci_store_rows.proofs.OneList.{alike_but, regular_with_next}
-use Rattle.ci_store_rows.proofs.Records.{is, before_it, after_it}
+use Rattle.ci_store_rows.proofs.Records.{is, before_it, after_it, unnumbered}
 
 abbrev pub sets : List Term
 sets = col 1 0 ∷ col 0 0 ∷ col 0 1 ∷ []
@@ -19,11 +19,6 @@ pub means : MeansPut the_schema 0 meta UPDATE_META.now INSERT_META.now (is 1 0 �
 unfolding understood everything
 means = record { there = refl; apart = refl; update_is = refl; update_plain = (refl, refl); insert_is = refl; insert_plain = (refl, refl); uncounted = refl; unstamped = refl; idle = refl; alone = λ olds a. refl }
 
--- a rowid that is chosen changes no column
-unnumbered : (b : Bool) (n v x y : Value) → image (places meta) (cond b (n ∷ x ∷ y ∷ []) (v ∷ x ∷ y ∷ [])) ≡ x ∷ y ∷ []
-unnumbered true n v x y = refl
-unnumbered false n v x y = refl
-
 agrees : (r new_row : Row) (key : List ℕ) (num : ℕ) → image (places meta) new_row ≡ meta_row key num → (equal Binary (column r 1) (Text key) && true) ≡ agree plain (1 ∷ []) r (1 ∷ []) new_row
 agrees r new_row key num is = sym (λ i. equal (first_key-plain i).collation (column r 1) (column (is i) 0) && true)
 
@@ -32,7 +27,7 @@ gives key num = record {
   tested = λ r. refl;
   updated = λ old. λ i. Text key ∷ cast_int (pos num) i ∷ [];
   source = refl;
-  inserted = λ rows. unnumbered (is_null (cast Integer Null)) _ _ _ _ ∙ (λ i. Text key ∷ cast_int (pos num) i ∷ []);
+  inserted = λ rows. unnumbered (is_null (cast Integer Null)) _ _ _ _ (image (places meta)) (λ v. refl) ∙ (λ i. Text key ∷ cast_int (pos num) i ∷ []);
   absent = λ rows new_row db shaped is keyed fresh put sound. absent_unique the_schema meta meta_index_1 (inl refl) (inl refl) refl rows new_row db _ (λ r. agrees r new_row key num is) shaped keyed fresh put sound;
 }
 

@@ -2,11 +2,11 @@
 use Rattle.ci_store.specs.Prelude.{Value, Null, Text, plain, equal, agree, Row, column, Term, lit, col, Table, output, output_cmp, Ghosts, Held, state, Kept, has_key, image}
 use Rattle.ci_store.specs.Prelude.{places, is_null, cast, Integer, eval_all, cast_row, value_rows, with_rowid, Chosen, Index, guards}
 use Rattle.ci_store_rows.specs.Prelude.{the_schema, number, rows_of, Rises, IsRegular, Stands, IsAt, ShowsRecords, RemovesUnreferred}
-use Rattle.ci_store_rows.proofs.Words.{◌≡◌, ◌∙◌, ◌==◌, ℕ, List, [], ◌∷◌, map, filter, Bool, true, false, ◌&&◌, not, cond, is_eq, Ordering, Less, Some, slice_get, sym, subst}
+use Rattle.ci_store_rows.proofs.Words.{◌≡◌, ◌∙◌, ◌==◌, ℕ, List, [], ◌∷◌, map, filter, Bool, true, ◌&&◌, not, is_eq, Ordering, Less, Some, slice_get, sym, subst}
 use Rattle.ci_store_rows.proofs.Words.{nat_cmp, ordering_then, slice_cmp, Binary, first_key-plain, filter_same, query, picks, IsActedOnByNone, whole_if_alone, MeansRemove}
 use Rattle.ci_store_rows.proofs.Words.{MeansSelect, equal_int, equal_text, ap, drop, ascending-filter, has_got, GivesRecord, absent_unique, length, all-filter, ◌/◌, ◌/◌}
 use Rattle.ci_store_rows.proofs.OneList.{IsAlike}
-use Rattle.ci_store_rows.proofs.Records.{is, is_number, both_equal, remove_stands}
+use Rattle.ci_store_rows.proofs.Records.{is, is_number, both_equal, remove_stands, unnumbered}
 use Rattle.ci_store_rows.proofs.Shows.{columns_of, names_of, by, pair, shows_sorted, found_all, rise_within}
 use Rattle.ci_store_rows.proofs.Tables.{Kind, Changing}
 
@@ -29,11 +29,6 @@ same_named owner name n text = (λ i. equal_int n owner i && (equal_text text na
 pub agrees : (r new_row : Row) (x y : Value) (rest others : Row) → column new_row 1 ∷ column new_row 2 ∷ others ≡ x ∷ y ∷ rest → (equal Binary (column r 1) x && (equal Binary (column r 2) y && true)) ≡ agree plain (1 ∷ 2 ∷ []) r (1 ∷ 2 ∷ []) new_row
 agrees r new_row x y rest others is =
     sym (λ i. equal (first_key-plain i).collation (column r 1) (column (is i) 0) && (equal (first_key-plain i).collation (column r 2) (column (is i) 1) && true))
-
--- a rowid that is chosen changes no column
-unnumbered : (b : Bool) (n v : Value) (cells params : Row) (im : Row → Row) → ((v : Value) → im (v ∷ cells) ≡ params) → im (cond b (n ∷ cells) (v ∷ cells)) ≡ params
-unnumbered true n v cells params im shown = shown n
-unnumbered false n v cells params im shown = shown v
 
 -- the values of a row as the table keeps them
 abbrev pub cells_of : Table → List Term → Row → Row

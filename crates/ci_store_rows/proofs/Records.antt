@@ -1,5 +1,5 @@
 -- A record that is put, and one that is removed, in a table of its own.
-use Rattle.ci_store.specs.Prelude.{Null, Int, Text, value_cmp, is_true, from_truth, Compare, Coalesce, Eq, Lt, Le, Gt, Ge, Row, Term, lit, col, op2, Table, with_rowid, cast}
+use Rattle.ci_store.specs.Prelude.{Value, Null, Int, Text, value_cmp, is_true, from_truth, Compare, Coalesce, Eq, Lt, Le, Gt, Ge, Row, Term, lit, col, op2, Table, with_rowid, cast}
 use Rattle.ci_store.specs.Prelude.{Integer, Chosen, or_null, bound_value, Ghosts, Held, state, Kept, put, has_key, image, places, without, IsOf, Changes, HasPut, is_within}
 use Rattle.ci_store.specs.Prelude.{equal}
 use Rattle.ci_store_rows.specs.Prelude.{the_schema, number, rows_of, IsRegular, Stands}
@@ -135,6 +135,11 @@ both_equal Greater b = refl
 -- the number is the rowid
 pub numbered : (rows : List Row) (n : ℤ) (rest : Row) → with_rowid Chosen rows (cast Integer (Int n) ∷ rest) ≡ Int n ∷ rest
 numbered rows n rest = ap (λ v. with_rowid Chosen rows (v ∷ rest)) (cast_int n)
+
+-- a rowid that is chosen changes no column
+pub unnumbered : (b : Bool) (n v : Value) (cells params : Row) (im : Row → Row) → ((v : Value) → im (v ∷ cells) ≡ params) → im (cond b (n ∷ cells) (v ∷ cells)) ≡ params
+unnumbered true n v cells params im shown = shown n
+unnumbered false n v cells params im shown = shown v
 
 pub cast_option : (o : Option ℕ) → cast Integer (or_null number o) ≡ or_null number o
 cast_option None = cast_null

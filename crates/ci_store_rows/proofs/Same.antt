@@ -22,21 +22,18 @@ text_of row place = text_in (column row place)
 
 pub same_words : (a b : Option (List ℕ)) → or_null Text a ≡ or_null Text b → a ≡ b
 same_words None None h = refl
-same_words None (Some y) h = cc
-same_words (Some x) None h = cc
 same_words (Some x) (Some y) h = cc
+same_words a b h = cc
 
 pub same_option : (a b : Option ℕ) → or_null number a ≡ or_null number b → a ≡ b
 same_option None None h = refl
-same_option None (Some y) h = cc
-same_option (Some x) None h = cc
 same_option (Some x) (Some y) h = cc
+same_option a b h = cc
 
 pub same_flag : (a b : Bool) → flag a ≡ flag b → a ≡ b
 same_flag true true h = refl
-same_flag true false h = cc
-same_flag false true h = cc
 same_flag false false h = refl
+same_flag a b h = cc
 
 pub zip_push : {A B : Type 0} (R : A → B → Type 0) (xs : List A) (ys : List B) (x : A) (y : B) → AllZip R xs ys → R x y → AllZip R (xs ++ x ∷ []) (ys ++ y ∷ [])
 zip_push R [] [] x y all h = (h, tt)

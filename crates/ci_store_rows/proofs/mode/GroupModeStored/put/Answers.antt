@@ -7,7 +7,6 @@ use Rattle.ci_store_rows.proofs.mode.GroupModeStored.put.Goals as goal
 pub returns-clause-makes : goal.returns-clause-makes
 returns-clause-makes g c clean inside =
     let x = c.args.self.now in
-    let row =
-    (λ i. bound_value (c.in_ok-project.ensures i) ∷ bound_value (c.text.ensures i) ∷ bound_value (c.to_sql.ensures i) ∷ [])
-    ∙ (λ i. number x.project ∷ Text x.group ∷ number (c.order_number.ensures i) ∷ []) in
-    mode_puts x _ _ _ g.S.Store c.args.tx.now.conn.now c.put.new.tx.conn.now c.put.result _ row (c.put.ensures.put clean inside)
+    mode_puts x _ _ _ g.S.Store c.args.tx.now.conn.now c.put.new.tx.conn.now c.put.result _
+    ((λ i. bound_value (c.in_ok-project.ensures i) ∷ bound_value (c.text.ensures i) ∷ bound_value (c.to_sql.ensures i) ∷ [])
+    ∙ (λ i. number x.project ∷ Text x.group ∷ number (c.order_number.ensures i) ∷ [])) (c.put.ensures.put clean inside)
