@@ -5,8 +5,8 @@ use Rattle.ci_store_rows.specs.Prelude.{UPDATE_META, INSERT_META, the_schema, me
 use Rattle.sqlite_sql.specs.Ops.{binary}
 use Rattle.std.proofs.lemmas.List.Sorted.{IsPermutation-middle, IsPermutation-sym}
 use Rattle.ci_store_rows.proofs.Words.{◌≡◌, ◌∙◌, ℕ, pos, List, [], ◌∷◌, true, ◌&&◌, refl, sym, inl, IsPermutation, drop, Binary, first_key-plain, MeansPut}
-use Rattle.ci_store_rows.proofs.Words.{GivesRecord, updates_one, absent_unique, cast_int, take}
-use Rattle.ci_store_rows.proofs.OneList.{alike_but, regular_with_next}
+use Rattle.ci_store_rows.proofs.Words.{GivesRecord, updates_one, absent_unique, cast_int, take, rules}
+use Rattle.ci_store_rows.proofs.OneList.{alike_but}
 use Rattle.ci_store_rows.proofs.Records.{is, before_it, after_it, unnumbered}
 
 abbrev pub sets : List Term
@@ -43,6 +43,6 @@ pub next_sets : {S : Type 0} (ghosts : Ghosts S) (before after : Held S) (c : Co
     → Stands (record k { state = record k.state { next = with_next c n k.state.next } }) (state ghosts after).now
 next_sets ghosts before after c n k stands h =
     let next = record k { state = record k.state { next = with_next c n k.state.next } } in
-    after_it ghosts next after (regular_with_next k (with_next c n k.state.next) stands.inside.regular)
+    after_it ghosts next after (let o = stands.inside.regular in search rules)
     (updates_one the_schema 0 meta UPDATE_META.now INSERT_META.now (is 1 0 ∷ []) sets terms means (Text (counter_key c) ∷ []) (meta_row (counter_key c) n) (gives (counter_key c) n) (rows_of k) (rows_of next)
     (alike_but [] (drop 1 (rows_by_tree k)) meta (meta_rows k.state.next) (meta_rows (with_next c n k.state.next))) (moved c n k.state.next) (state ghosts before) (state ghosts after) (before_it ghosts k before stands) h)

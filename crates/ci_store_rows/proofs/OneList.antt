@@ -1,5 +1,5 @@
 -- One list of what is kept changes, and the others stay.
-use Rattle.ci_store.specs.Prelude.{Row, Table, Kept, trace_cmp, Numbers, Trace, Unfinished, Database}
+use Rattle.ci_store.specs.Prelude.{Row, Table, Kept, trace_cmp, Trace, Unfinished, Database}
 use Rattle.ci_store_rows.specs.Prelude.{the_schema, rows_at, Rises, IsRegular, Stands}
 use Rattle.ci_store_rows.proofs.Words.{rules, ◌≡◌, ◌≢◌, ◌==◌, ℕ, List, [], ◌∷◌, ◌++◌, if◌then◌else◌, ap, ne_eqb, AllByRecursion, all_from}
 
@@ -19,18 +19,11 @@ alike_but before after table rows others = all_from (λ u. u.tree ≢ table.tree
 
 -- ---- what is regular still
 
-pub regular_with_next : (k : Kept) (next : Numbers) → IsRegular k → IsRegular (record k { state = record k.state { next = next } })
-regular_with_next k next o = search rules
-
 pub regular_with_traces : (k : Kept) (xs : List Trace) → Rises trace_cmp xs → IsRegular k → IsRegular (record k { state = record k.state { traces = xs } })
 regular_with_traces k xs up o = search rules
 
-pub regular_with_unfinished : (k : Kept) (xs : List Unfinished) → IsRegular k → IsRegular (record k { unfinished = xs })
-regular_with_unfinished k xs o = search rules
-
 -- the tables stand for what is kept whatever it says of the pipelines that aren't finished
 pub stands_with_unfinished : (k : Kept) (xs : List Unfinished) (db : Database) → Stands k db → Stands (record k { unfinished = xs }) db
-stands_with_unfinished k xs db stands = record {
-  listed = stands.listed;
-  inside = record { tables = stands.inside.tables; regular = regular_with_unfinished k xs stands.inside.regular };
-}
+stands_with_unfinished k xs db stands =
+    let o = stands.inside.regular in
+    record { listed = stands.listed; inside = record { tables = stands.inside.tables; regular = search rules } }

@@ -22,11 +22,13 @@ abbrev pub named : ℕ → List ℕ → Row
 named owner name = number owner ∷ Text name ∷ []
 
 -- what tests for such a key say of a record with an owner and a name
-pub same_named : (owner : ℕ) (name : List ℕ) (n : ℕ) (text : List ℕ) → (equal Binary (number n) (number owner) && (equal Binary (Text text) (Text name) && true)) ≡ is_eq (ordering_then (nat_cmp n owner) (slice_cmp nat_cmp text name))
+pub same_named : (owner : ℕ) (name : List ℕ) (n : ℕ) (text : List ℕ)
+    → (equal Binary (number n) (number owner) && (equal Binary (Text text) (Text name) && true)) ≡ is_eq (ordering_then (nat_cmp n owner) (slice_cmp nat_cmp text name))
 same_named owner name n text = (λ i. equal_int n owner i && (equal_text text name i && true)) ∙ both_equal (nat_cmp n owner) (slice_cmp nat_cmp text name)
 
 -- rows agree on the key where both columns are equal
-pub agrees : (r new_row : Row) (x y : Value) (rest others : Row) → column new_row 1 ∷ column new_row 2 ∷ others ≡ x ∷ y ∷ rest → (equal Binary (column r 1) x && (equal Binary (column r 2) y && true)) ≡ agree plain (1 ∷ 2 ∷ []) r (1 ∷ 2 ∷ []) new_row
+pub agrees : (r new_row : Row) (x y : Value) (rest others : Row) → column new_row 1 ∷ column new_row 2 ∷ others ≡ x ∷ y ∷ rest
+    → (equal Binary (column r 1) x && (equal Binary (column r 2) y && true)) ≡ agree plain (1 ∷ 2 ∷ []) r (1 ∷ 2 ∷ []) new_row
 agrees r new_row x y rest others is =
     sym (λ i. equal (first_key-plain i).collation (column r 1) (column (is i) 0) && (equal (first_key-plain i).collation (column r 2) (column (is i) 1) && true))
 
@@ -35,8 +37,10 @@ abbrev pub cells_of : Table → List Term → Row → Row
 cells_of table cols row = drop 1 (cast_row table (eval_all (lit Null ∷ cols) (row ∷ [])))
 
 -- what the texts do with the values of a row, which sets the columns to these terms
-pub gives_keyed : (at : ℕ) (table : Table) → slice_get the_schema.tables at ≡ Some table → (place : ℕ) (index : Index) → slice_get the_schema.indexes place ≡ Some index → guards index table ≡ true → (cols : List Term) (key params : Row)
-    → ((r : Row) → picks tests params r ≡ has_key key (image (places table) r)) → ((r new_row : Row) → image (places table) new_row ≡ params → picks tests params r ≡ agree index.order index.columns r index.columns new_row)
+pub gives_keyed : (at : ℕ) (table : Table) → slice_get the_schema.tables at ≡ Some table → (place : ℕ) (index : Index) → slice_get the_schema.indexes place ≡ Some index
+    → guards index table ≡ true → (cols : List Term) (key params : Row)
+    → ((r : Row) → picks tests params r ≡ has_key key (image (places table) r))
+    → ((r new_row : Row) → image (places table) new_row ≡ params → picks tests params r ≡ agree index.order index.columns r index.columns new_row)
     → ((r : Row) → cast_row table (eval_all (col 1 0 ∷ cols) (params ∷ r ∷ [])) ≡ column (cast_row table (eval_all (col 1 0 ∷ cols) (params ∷ r ∷ []))) 0 ∷ cells_of table cols params)
     → cast_row table (eval_all (lit Null ∷ cols) (params ∷ [])) ≡ cast Integer Null ∷ cells_of table cols params
     → value_rows params (length (lit Null ∷ cols)) (length (lit Null ∷ cols) / length (lit Null ∷ cols)) (lit Null ∷ cols) ≡ eval_all (lit Null ∷ cols) (params ∷ []) ∷ []
@@ -57,7 +61,8 @@ pub record RemovesAlone (at : ℕ) (table : Table) (delete : List ℕ) (asked : 
 
 module _ {S : Type 0} (g : Ghosts S) (old new : Held S) {A : Type 0} (values : A → Row) (at : ℕ) (table : Table) where
   -- the removal of the records with values of the first columns, where no table refers to them
-  pub removed_owned : (asked : List Term) (test : A → Bool) (xs : List A) (key : Row) (k next : Kept) → rows_of k table.tree ≡ map values xs → rows_of next table.tree ≡ map values (filter (λ x. not (test x)) xs) → IsAlike (rows_of k) (rows_of next) table
+  pub removed_owned : (asked : List Term) (test : A → Bool) (xs : List A) (key : Row) (k next : Kept) → rows_of k table.tree ≡ map values xs
+      → rows_of next table.tree ≡ map values (filter (λ x. not (test x)) xs) → IsAlike (rows_of k) (rows_of next) table
       → (IsRegular k → IsRegular next) → ((x : A) → has_key key (values x) ≡ test x) → ((r : Row) → picks asked key r ≡ has_key key (image (places table) r))
       → (delete : List ℕ) → RemovesAlone at table delete asked
       → Stands k (state g old).now → RemovesUnreferred g [] delete key old new → Stands next (state g new).now
@@ -82,7 +87,8 @@ module _ {S : Type 0} (g : Ghosts S) (old new : Held S) {A : Type 0} (values : A
 
 -- the same removal, of a list that can change
 pub removed_listed : {A : Type 0} (kind : Kind A) {cmp : A → A → Ordering} {holding : List A → Kept → Kept} {Also : A → Type 0} (changing : Changing kind cmp holding Also) {S : Type 0} (g : Ghosts S) (old new : Held S) (asked : List Term) (test : A → Bool) (key : Row) → ((x : A) → has_key key (kind.values x) ≡ test x)
-    → ((r : Row) → picks asked key r ≡ has_key key (image (places kind.table) r)) → {delete : List ℕ} → RemovesAlone kind.at kind.table delete asked → (k : Kept) → Stands k (state g old).now → RemovesUnreferred g [] delete key old new
+    → ((r : Row) → picks asked key r ≡ has_key key (image (places kind.table) r)) → {delete : List ℕ} → RemovesAlone kind.at kind.table delete asked → (k : Kept)
+    → Stands k (state g old).now → RemovesUnreferred g [] delete key old new
     → Stands (holding (filter (λ x. not (test x)) (kind.list k)) k) (state g new).now
 removed_listed kind changing g old new asked test key keyed tested {delete = delete} removes k stands =
     removed_owned g old new kind.values kind.at kind.table asked test (kind.list k) key k _ (kind.was k) (changing.now k _) (changing.alike k _)

@@ -10,7 +10,7 @@ use Rattle.std.proofs.lemmas.List.Sorted.{IsPermutation-trans, IsPermutation-map
 use mathlib.Core.List.{reverse-cons}
 use Rattle.ci_store_rows.proofs.Words.{Binary, IsPermutation-filter, ◌≡◌, ◌∙◌, ℕ, pos, List, [], ◌∷◌, ◌++◌, map, filter, reverse, find, take, drop, slice_get, Bool, true}
 use Rattle.ci_store_rows.proofs.Words.{false, is_eq, Ordering, Less, Equal, Greater, Option, Some, None, option_map, refl, sym, ap, subst, cond, inl, inr, IsPermutation, ◌<◌}
-use Rattle.ci_store_rows.proofs.Words.{◌≤◌, ◌==◌, suc, length, min, nat_lt, ltb-false, ne_eqb, arith, nat_cmp, cond_both, AllByRecursion, AllZip, All, Contains, last_or}
+use Rattle.ci_store_rows.proofs.Words.{◌≤◌, ◌==◌, suc, length, min, nat_lt, arith, nat_cmp, AllByRecursion, AllZip, All, Contains, last_or, lt-ltb, eqb-true, filter-filter}
 use Rattle.ci_store_rows.proofs.Words.{ordering_then, IsTotalOrder, slice_cmp, filter-append, All-from_recursion, on_total, then_total, nat_cmp_total, tied_back, by_key_total}
 use Rattle.ci_store_rows.proofs.Words.{value_cmp-Int, value_cmp-Text, then-Equal, one_permutation, reads_as, filter-map, filter_same, slice_get-filter, ascending-map}
 use Rattle.ci_store_rows.proofs.Words.{ascending_weaker, ascending-filter, all_has, all_from, has_got, has_filtered, has_left, perm_nil, map_nil, map_one, query, picks}
@@ -279,14 +279,10 @@ last_of_those p xs = ap (λ l. slice_get l 0) (sym (append-nil (filter p (revers
 
 module _ {A : Type 0} (id : A → ℕ) (last n : ℕ) (over : last < n) where
   none_among : (xs : List A) → filter (λ x. nat_lt last (id x)) xs ≡ [] → find (λ x. id x == n) xs ≡ None
-  none_among [] e = refl
-  none_among (x ∷ xs) e =
-      cond_both (nat_lt last (id x)) (x ∷ filter (λ y. nat_lt last (id y)) xs) (filter (λ y. nat_lt last (id y)) xs) (λ l. l ≡ [] → find (λ y. id y == n) (x ∷ xs) ≡ None)
-      (λ _ some. absurd (cc))
-      (λ low rest.
-      let other : (id x == n) ≡ false = ne_eqb (id x) n (λ same. let le : id x ≤ last = ltb-false last (id x) low in omega arith) in
-      subst (λ b. cond b (Some x) (find (λ y. id y == n) xs) ≡ None) (sym other) (none_among xs rest))
-      e
+  none_among xs e =
+      let p : A → Bool = λ x. id x == n in
+      let above : (x : A) → p x ≡ true → nat_lt last (id x) ≡ true = λ x is. lt-ltb last (id x) (let same = eqb-true (id x) n is in omega (arith, over, same)) in
+      sym (slice_get-filter p xs) ∙ ap (λ l. slice_get l 0) (sym (filter-filter p (λ x. nat_lt last (id x)) above xs) ∙ ap (filter p) e)
 
   pub found_none : {B : Type 0} (is_row : Row → B → Type 0) (values : A → Row) (xs : List A) (rows : List Row) → IsPermutation (map values (filter (λ x. nat_lt last (id x)) xs)) rows → AllZip is_row rows [] → find (λ x. id x == n) xs ≡ None
   found_none is_row values xs [] same read = none_among xs (map_nil _ _ (perm_nil _ same))

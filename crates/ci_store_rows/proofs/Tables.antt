@@ -27,10 +27,22 @@ pub record Kind (A : Type 0) : Type 1 where
   pub showed : (key r : Row) → eval_all (columns_of table) (key ∷ r ∷ []) ≡ image (places table) r
 
 -- where records with the same row are the same
-abbrev pub exact : {A : Type 0} (at : ℕ) (table : Table) → slice_get the_schema.tables at ≡ Some table → (values : A → Row) (list : Kept → List A) → ((k : Kept) → rows_of k table.tree ≡ map values (list k))
+abbrev pub exact : {A : Type 0} (at : ℕ) (table : Table) → slice_get the_schema.tables at ≡ Some table → (values : A → Row) (list : Kept → List A)
+    → ((k : Kept) → rows_of k table.tree ≡ map values (list k))
     → ((key r : Row) → eval_all (columns_of table) (key ∷ r ∷ []) ≡ image (places table) r) → ((x y : A) → values x ≡ values y → x ≡ y) → Kind A
 exact at table there values list was showed same =
-    record { at = at; table = table; there = there; values = values; list = list; was = was; is_row = λ row x. row ≡ values x; one = λ k o x y _ is. sym (same y x is); showed = showed }
+    record {
+      at = at;
+      table = table;
+      there = there;
+      values = values;
+      list = list;
+      was = was;
+      is_row = λ row x. row ≡ values x;
+      one = λ k o x y _ is. sym (same y x is);
+      showed =
+          showed;
+    }
 
 -- what the text of a query of all columns means, of so many rows at most and of all
 abbrev pub SelectsTo : Term → Table → List ℕ → List Term → List (Term × Key) → Type 0
@@ -50,7 +62,8 @@ pub record Changing {A : Type 0} (kind : Kind A) (cmp : A → A → Ordering) (h
   pub regular : (k : Kept) (xs : List A) → Rises cmp xs → AllByRecursion Also xs → IsRegular k → IsRegular (holding xs k)
 
 -- where nothing holds besides
-pub changes : {A : Type 0} {kind : Kind A} {cmp : A → A → Ordering} {holding : List A → Kept → Kept} → IsTotalOrder cmp → ((k : Kept) (xs : List A) → rows_of (holding xs k) kind.table.tree ≡ map kind.values xs)
+pub changes : {A : Type 0} {kind : Kind A} {cmp : A → A → Ordering} {holding : List A → Kept → Kept} → IsTotalOrder cmp
+    → ((k : Kept) (xs : List A) → rows_of (holding xs k) kind.table.tree ≡ map kind.values xs)
     → ((k : Kept) (xs : List A) → IsAlike (rows_of k) (rows_of (holding xs k)) kind.table) → ((k : Kept) → IsRegular k → Rises cmp (kind.list k))
     → ((k : Kept) (xs : List A) → Rises cmp xs → IsRegular k → IsRegular (holding xs k)) → Changing kind cmp holding (λ x. Unit)
 changes {kind = kind} total now alike rises regular =
@@ -62,7 +75,8 @@ PutsRow update insert row change = (S C E : Type 0) (g : Ghosts S) (old new : He
     → OnOk result (IsTrue new.in_transaction × HasPut g update insert params old new) → OnOk result (Makes g change old new)
 
 module _ {A : Type 0} (kind : Kind A) {cmp : A → A → Ordering} {holding : List A → Kept → Kept} {Also : A → Type 0} (changing : Changing kind cmp holding Also) where
-  pub put_record : {update insert : List ℕ} {tests sets terms : List Term} → MeansPut the_schema kind.at kind.table update insert tests sets terms → (key : Row) (x : A) → GivesRecord the_schema kind.table tests sets terms key (kind.values x)
+  pub put_record : {update insert : List ℕ} {tests sets terms : List Term} → MeansPut the_schema kind.at kind.table update insert tests sets terms → (key : Row) (x : A)
+      → GivesRecord the_schema kind.table tests sets terms key (kind.values x)
       → ((y : A) → has_key key (kind.values y) ≡ is_eq (cmp y x)) → Also x → PutsRow update insert (kind.values x) (λ k. holding (put cmp x (kind.list k)) k)
   put_record {update = update} {insert = insert} {tests = tests} {sets = sets} {terms = terms} means key x gives same_key also S C E g old new result params is =
       on_ok result (λ ran. (ran.0, λ k stands. go k stands (subst (λ row. HasPut g update insert row old new) is ran.1)))
@@ -97,8 +111,10 @@ pub record MeansNumbered (table : Table) (text over : List ℕ) : Type 0 where
 abbrev pub cells_of : Table → Row → Row
 cells_of table row = drop 1 (cast_row table (eval_all (numbered_sets table) (row ∷ [])))
 
-module _ {A : Type 0} (kind : Kind A) {id : A → ℕ} (numbers : Numbered kind id) (x : A) (made : (rows : List Row) → cast_row kind.table (eval_all (numbered_sets kind.table) (kind.values x ∷ rows)) ≡ cast Integer (number (id x)) ∷ cells_of kind.table (kind.values x))
-    (source : value_rows (kind.values x) (length (numbered_sets kind.table)) (length (numbered_sets kind.table) / length (numbered_sets kind.table)) (numbered_sets kind.table) ≡ eval_all (numbered_sets kind.table) (kind.values x ∷ []) ∷ [])
+module _ {A : Type 0} (kind : Kind A) {id : A → ℕ} (numbers : Numbered kind id) (x : A) (made : (rows : List Row) → cast_row kind.table
+    (eval_all (numbered_sets kind.table) (kind.values x ∷ rows)) ≡ cast Integer (number (id x)) ∷ cells_of kind.table (kind.values x))
+    (source : value_rows (kind.values x) (length (numbered_sets kind.table)) (length (numbered_sets kind.table) / length (numbered_sets kind.table)) (numbered_sets kind.table)
+    ≡ eval_all (numbered_sets kind.table) (kind.values x ∷ []) ∷ [])
     (shown : image (places kind.table) (number (id x) ∷ cells_of kind.table (kind.values x)) ≡ kind.values x) where
   compared : (r : Row) → picks (is 0 0 ∷ []) (kind.values x) r ≡ (equal Binary (column r 0) (number (id x)) && true)
   compared r = ap (λ v. equal Binary (column r 0) v && true) (numbers.first x)
@@ -113,7 +129,9 @@ module _ {A : Type 0} (kind : Kind A) {id : A → ℕ} (numbers : Numbered kind 
         absent_rowid rows new_row (pos (id x)) _ compared shaped (sym (numbers.place new_row) ∙ ap (λ image. column image 0) is ∙ numbers.first x) fresh;
   }
 
-  pub put_numbered : {cmp : A → A → Ordering} {holding : List A → Kept → Kept} {Also : A → Type 0} (changing : Changing kind cmp holding Also) → ((y : A) → cmp y x ≡ nat_cmp (id y) (id x)) → {update insert : List ℕ} → MeansPut the_schema kind.at kind.table update insert (is 0 0 ∷ []) (numbered_sets kind.table) (numbered_sets kind.table)
+  pub put_numbered : {cmp : A → A → Ordering} {holding : List A → Kept → Kept} {Also : A → Type 0} (changing : Changing kind cmp holding Also)
+      → ((y : A) → cmp y x ≡ nat_cmp (id y) (id x)) → {update insert : List ℕ}
+      → MeansPut the_schema kind.at kind.table update insert (is 0 0 ∷ []) (numbered_sets kind.table) (numbered_sets kind.table)
       → Also x → PutsRow update insert (kind.values x) (λ k. holding (put cmp x (kind.list k)) k)
   put_numbered changing cmp_is means =
       put_record kind changing means (number (id x) ∷ []) x gives_numbered (λ y. numbers.keyed (id x) y ∙ same_number (id y) (id x) ∙ ap is_eq (sym (cmp_is y)))
@@ -124,32 +142,38 @@ module _ {A : Type 0} (kind : Kind A) {id : A → ℕ} (numbers : Numbered kind 
 abbrev pub back : Row → Row
 back im = column im 0 ∷ im
 
-module _ {S A : Type 0} (kind : Kind A) (g : Ghosts S) (old new : Held S) (k : Kept) (stands : Stands k (state g old).now) (text : List ℕ) (tests : List Term) (key : Row) (passes : A → Bool)
+module _ {S A : Type 0} (kind : Kind A) (g : Ghosts S) (old new : Held S) (k : Kept) (stands : Stands k (state g old).now) (text : List ℕ) (tests : List Term) (key : Row)
+    (passes : A → Bool)
     (tested : (r : Row) → picks tests key r ≡ picks tests key (back (image (places kind.table) r))) (same : (x : A) → picks tests key (back (kind.values x)) ≡ passes x) where
   -- the one record that passes the tests
   pub one_found : Selects kind.table text tests [] → (found : Option A) → ShowsRecords kind.is_row g text key old new (listed found) → found ≡ find passes (kind.list k)
   one_found means found h =
       found_one kind.is_row kind.values passes (kind.list k) (kind.one k stands.inside.regular) h.rows
-      (shows_passing kind.values kind.at kind.table kind.there text tests key (λ im. picks tests key (back im)) tested passes same k (kind.list k) (kind.was k) h.rows (kind.showed key) means (state g old) (state g new) stands h.shown)
+      (shows_passing kind.values kind.at kind.table kind.there text tests key (λ im. picks tests key (back im)) tested passes same k (kind.list k) (kind.was k) h.rows
+      (kind.showed key) means (state g old) (state g new) stands h.shown)
       found h.read
 
 -- ---- what a query shows in the order of the numbers, up or down
 
 module _ {S A : Type 0} (kind : Kind A) {id : A → ℕ} (numbers : Numbered kind id) (g : Ghosts S) (old new : Held S) (k : Kept) (stands : Stands k (state g old).now) where
   -- the record with a number, which the first query looks for; no number is above the last one that the second looks from
-  pub numbered_found : (text over : List ℕ) → MeansNumbered kind.table text over → (n : ℕ) (found : Option A) → FindsNumber kind.is_row g text over n old new found → found ≡ find (λ x. id x == n) (kind.list k)
+  pub numbered_found : (text over : List ℕ) → MeansNumbered kind.table text over → (n : ℕ) (found : Option A) → FindsNumber kind.is_row g text over n old new found
+      → found ≡ find (λ x. id x == n) (kind.list k)
   numbered_found text over means n found (inl h) =
       one_found kind g old new k stands text (is 0 0 ∷ []) (number n ∷ []) (λ x. id x == n) (λ r. ap (λ v. equal Binary v (number n) && true) (sym (numbers.place r)))
       (λ x. ap (λ v. equal Binary v (number n) && true) (numbers.first x) ∙ finds_number (id x) n) means.at_number found h
   numbered_found text over means n found (inr h) =
       h.0
       ∙ sym (found_none id LAST_INTEGER n h.1 kind.is_row kind.values (kind.list k) h.2.rows
-      (shows_passing kind.values kind.at kind.table kind.there over (above 0 0 ∷ []) (number LAST_INTEGER ∷ []) (λ im. compares Gt (column im 0) (number LAST_INTEGER) && true) (λ r. ap (λ v. compares Gt v (number LAST_INTEGER) && true) (sym (numbers.place r)))
-      (λ x. nat_lt LAST_INTEGER (id x)) (λ x. ap (λ v. compares Gt v (number LAST_INTEGER) && true) (numbers.first x) ∙ finds_beyond LAST_INTEGER (id x)) k (kind.list k) (kind.was k) h.2.rows
+      (shows_passing kind.values kind.at kind.table kind.there over (above 0 0 ∷ []) (number LAST_INTEGER ∷ []) (λ im. compares Gt (column im 0) (number LAST_INTEGER) && true)
+      (λ r. ap (λ v. compares Gt v (number LAST_INTEGER) && true) (sym (numbers.place r)))
+      (λ x. nat_lt LAST_INTEGER (id x)) (λ x. ap (λ v. compares Gt v (number LAST_INTEGER) && true) (numbers.first x) ∙ finds_beyond LAST_INTEGER (id x)) k (kind.list k)
+      (kind.was k) h.2.rows
       (kind.showed (number LAST_INTEGER ∷ [])) means.over_it (state g old) (state g new) stands h.2.shown)
       h.2.read)
 
-module _ {S A : Type 0} (kind : Kind A) {id : A → ℕ} (numbers : Numbered kind id) (g : Ghosts S) (old new : Held S) (k : Kept) (stands : Stands k (state g old).now) (text : List ℕ) (tests : List Term) (key : Row) (passes : A → Bool)
+module _ {S A : Type 0} (kind : Kind A) {id : A → ℕ} (numbers : Numbered kind id) (g : Ghosts S) (old new : Held S) (k : Kept) (stands : Stands k (state g old).now)
+    (text : List ℕ) (tests : List Term) (key : Row) (passes : A → Bool)
     (tested : (r : Row) → picks tests key r ≡ picks tests key (back (image (places kind.table) r))) (same : (x : A) → picks tests key (back (kind.values x)) ≡ passes x) where
   rising : (x y : A) → nat_cmp (id x) (id y) ≡ Less → ordering_then (by_key (ascending Binary) (column (kind.values x) 0) (column (kind.values y) 0)) Equal ≡ Less
   rising x y low = (λ i. ordering_then (by_key (ascending Binary) (numbers.first x i) (numbers.first y i)) Equal) ∙ rising_number (id x) (id y) low
@@ -161,11 +185,13 @@ module _ {S A : Type 0} (kind : Kind A) {id : A → ℕ} (numbers : Numbered kin
   pub all_numbered : Selects kind.table text tests (by 0) → (found : List A) → ShowsRecords kind.is_row g text key old new found → found ≡ filter passes (kind.list k)
   all_numbered means found h =
       found_all kind.is_row kind.values passes (kind.list k) (kind.one k stands.inside.regular) h.rows
-      (shows_sorted kind.values kind.at kind.table kind.there text tests key (λ im. picks tests key (back im)) tested passes same k (kind.list k) (kind.was k) h.rows 0 0 (λ r i. (sym (numbers.place r) i ∷ [], kind.showed key r i)) means up (state g old) (state g new) stands h.shown)
+      (shows_sorted kind.values kind.at kind.table kind.there text tests key (λ im. picks tests key (back im)) tested passes same k (kind.list k) (kind.was k) h.rows 0 0
+      (λ r i. (sym (numbers.place r) i ∷ [], kind.showed key r i)) means up (state g old) (state g new) stands h.shown)
       found h.read
 
   -- the first so many
-  pub first_numbered : (limit : Term) (n : ℕ) → count_of limit key ≡ Some n → SelectsTo limit kind.table text tests (by 0) → (found : List A) → ShowsRecords kind.is_row g text key old new found → found ≡ take n (filter passes (kind.list k))
+  pub first_numbered : (limit : Term) (n : ℕ) → count_of limit key ≡ Some n → SelectsTo limit kind.table text tests (by 0) → (found : List A)
+      → ShowsRecords kind.is_row g text key old new found → found ≡ take n (filter passes (kind.list k))
   first_numbered limit n count means found h =
       found_first kind.is_row kind.values passes (kind.list k) (kind.one k stands.inside.regular) n h.rows
       (shows_ordered kind.values kind.at kind.table kind.there text tests key (λ im. picks tests key (back im)) tested passes same k (kind.list k) (kind.was k) h.rows
@@ -174,7 +200,8 @@ module _ {S A : Type 0} (kind : Kind A) {id : A → ℕ} (numbers : Numbered kin
       found h.read
 
   -- the last so many
-  pub last_numbered : (limit : Term) (n : ℕ) → count_of limit key ≡ Some n → SelectsTo limit kind.table text tests (backward 0) → (found : List A) → ShowsRecords kind.is_row g text key old new found
+  pub last_numbered : (limit : Term) (n : ℕ) → count_of limit key ≡ Some n → SelectsTo limit kind.table text tests (backward 0) → (found : List A)
+      → ShowsRecords kind.is_row g text key old new found
       → found ≡ take n (filter passes (reverse (kind.list k)))
   last_numbered limit n count means found h =
       let turned = IsPermutation-sym _ _ (IsPermutation-reverse (kind.list k)) in
@@ -182,7 +209,8 @@ module _ {S A : Type 0} (kind : Kind A) {id : A → ℕ} (numbers : Numbered kin
       found_first kind.is_row kind.values passes (reverse (kind.list k))
       (λ x y has. kind.one k stands.inside.regular x y (has_contained (kind.list k) y (Contains-permutation _ _ y turned (contains_had (reverse (kind.list k)) y has)))) n h.rows
       (shows_backward kind.values kind.at kind.table kind.there text tests key (λ im. picks tests key (back im)) tested passes same k (kind.list k) (kind.was k) h.rows
-      limit 0 0 (λ r i. (sym (numbers.place r) i ∷ [], kind.showed key r i)) means (ascending_weaker _ _ (λ x y low. (λ i. ordering_then (by_key (record { collation = Binary; descending = true }) (numbers.first x i) (numbers.first y i)) Equal) ∙ low) _ falls)
+      limit 0 0 (λ r i. (sym (numbers.place r) i ∷ [], kind.showed key r i)) means (ascending_weaker _ _
+      (λ x y low. (λ i. ordering_then (by_key (record { collation = Binary; descending = true }) (numbers.first x i) (numbers.first y i)) Equal) ∙ low) _ falls)
       (state g old) (state g new) stands h.shown
       ∙ ap (λ c. limited c (map kind.values (filter passes (reverse (kind.list k))))) count)
       found h.read

@@ -16,7 +16,7 @@ pub use Rattle.sqlite_trees.proofs.ListLemmas.{IsPermutation-filter, all-permuta
 pub use Rattle.sqlite_value.proofs.KeyLemmas.{by_key_total, first_key-plain}
 pub use Rattle.sqlite_value.proofs.OrderLemmas.{then-Equal, value_cmp-Int, value_cmp-Text}
 pub use Rattle.std.proofs.Common.{Bool, Equal, Err, Greater, IfSome, IsPermutation, IsTrue, Less, List, None, Ok, OnOk, Option, Ordering, Result, Some, [], ap, arith, codes}
-pub use Rattle.std.proofs.Common.{cond, drop, false, filter, find, if◌then◌else◌, inl, inr, is_eq, is_lt, length, length-append, ltb-false, ltb-true, map, min, nat_cmp, nat_le}
+pub use Rattle.std.proofs.Common.{cond, drop, false, filter, find, if◌then◌else◌, inl, inr, is_eq, is_lt, length, length-append, ltb-true, map, min, nat_cmp, nat_le}
 pub use Rattle.std.proofs.Common.{nat_lt, ne_eqb, not, option_map, pos, refl, reverse, rules, slice_get, slice_index_or, subst, suc, sym, take, true, zero, ℕ, ℤ, ◌%◌, ◌&&◌}
 pub use Rattle.std.proofs.Common.{◌*◌, ◌++◌, ◌+◌, ◌-◌, ◌/◌, ◌<◌, ◌==◌, ◌∙◌, ◌∷◌, ◌≡◌, ◌≢◌, ◌≤◌, ◌⊎◌}
 pub use Rattle.std.proofs.lemmas.Bool.{cond_both, eq-eqb, eqb-true, leb-true, lt-ltb, not-true}
