@@ -13,7 +13,6 @@ pub mod FlowLists
 pub mod Tabs
 pub mod SpansStand
 pub mod SpansTexts
-pub mod SpansQuoted
 pub mod SpansFlow
 pub mod SpansGiven
 pub mod SpansParsed

@@ -24,3 +24,6 @@ take-past (suc n) (x ∷ xs) le = let less : length xs ≤ n = omega arith in ap
 pub push-some : {A : Type 0} (xs : List A) (x : A) → 0 < length (xs ++ x ∷ [])
 push-some [] x = omega arith
 push-some (y ∷ xs) x = omega arith
+
+pub one-more : (n : ℕ) → 1 + n ≡ suc n
+one-more n = omega arith

@@ -4,9 +4,10 @@ use Rattle.std.proofs.Common.{None, refl, sym, ◌∙◌, ap, arith, append_asso
 use Rattle.std.specs.List.{position, position_or_len}
 use Rattle.std.proofs.lemmas.List.Sums.{fails_before_first}
 use Rattle.std.proofs.lemmas.List.Quantifiers.{position-Some}
-use Rattle.std.proofs.lemmas.Bool.{eqb-true, ltb-false}
+use Rattle.std.proofs.lemmas.Bool.{eqb-true, or_parts, or_cases, cond-true, cond-false, cases_Bool, ltb-false}
 use Rattle.std.proofs.lemmas.List.{append-nil}
 use Rattle.ci_yaml_lines.specs.Scalar.{Quoted}
+use Rattle.ci_yaml_lines.proofs.Bools.{or_false}
 use Rattle.ci_yaml_lines.specs.Prelude.{with_byte, wrongly, closes, with_words, from_place, single, is_escape, escaped, escape_of, double, head_is, tail_of, with_wrong}
 
 pub words-nil : (q : Option Quoted) → with_words [] q ≡ q
@@ -29,13 +30,10 @@ pub wrong-words : (w : Bool) (ws : List ℕ) (q : Option Quoted) → with_wrong 
 wrong-words w ws None = refl
 wrong-words w ws (Some q) = refl
 
-or-assoc : (a b c : Bool) → (a || (b || c)) ≡ ((a || b) || c)
-or-assoc true b c = refl
-or-assoc false b c = refl
-
 pub wrong-wrong : (v w : Bool) (q : Option Quoted) → with_wrong v (with_wrong w q) ≡ with_wrong (v || w) q
 wrong-wrong v w None = refl
-wrong-wrong v w (Some q) = ap (λ t. Some (record { text = q.text; wrong = t; rest = q.rest })) (or-assoc v w q.wrong)
+wrong-wrong true w (Some q) = refl
+wrong-wrong false w (Some q) = refl
 
 pub wrong-not : (q : Option Quoted) → with_wrong false q ≡ q
 wrong-not None = refl
@@ -60,7 +58,7 @@ no-mark : (f : List ℕ → Option Quoted) (p : ℕ → Bool) → ((b : ℕ) (bs
 no-mark f p other nil [] fails = nil
 no-mark f p other nil (b ∷ bs) fails = other b bs (fails 0 (omega arith)) ∙ ap (with_byte b) (no-mark f p other nil bs (λ k l. fails (suc k) (omega arith)))
 
-pub found_by : (f : List ℕ → Option Quoted) (p : ℕ → Bool) → ((b : ℕ) (bs : List ℕ) → p b ≡ false → f (b ∷ bs) ≡ with_byte b (f bs)) → f [] ≡ None
+found_by : (f : List ℕ → Option Quoted) (p : ℕ → Bool) → ((b : ℕ) (bs : List ℕ) → p b ≡ false → f (b ∷ bs) ≡ with_byte b (f bs)) → f [] ≡ None
     → (bs : List ℕ) (r : Option ℕ) → r ≡ position p bs → f bs ≡ from_place f bs r
 found_by f p other nil bs None e = no-mark f p other nil bs (λ k lt. none (position_or_len p bs) (nat_lt (position_or_len p bs) (length bs)) refl e k lt)
   where
@@ -71,9 +69,9 @@ found_by f p other nil bs (Some i) e =
     let at = position-Some p bs i 0 (sym e) in
     (let one : suc i ≡ i + 1 = omega arith in to-mark f p other bs i at.0 at.2 ∙ ap (λ (k : ℕ). with_words (take i bs) (f (get_or bs i 0 ∷ drop k bs))) one)
 
-pub place_by : (p : ℕ → Bool) (bs : List ℕ) (r : Option ℕ) → r ≡ position p bs → IfSome r (λ i. (i < length bs) × (p (get_or bs i 0) ≡ true))
-place_by p bs None e = tt
-place_by p bs (Some i) e = let at = position-Some p bs i 0 (sym e) in (at.0, at.1)
+place_by : (p : ℕ → Bool) (P : ℕ → Type 0) → ((b : ℕ) → p b ≡ true → P b) → (bs : List ℕ) (r : Option ℕ) → r ≡ position p bs → IfSome r (λ i. (i < length bs) × P (get_or bs i 0))
+place_by p P holds bs None e = tt
+place_by p P holds bs (Some i) e = let at = position-Some p bs i 0 (sym e) in (at.0, holds (get_or bs i 0) at.1)
 
 -- ---- the two kinds
 
@@ -86,48 +84,32 @@ pub single-quote : (bs : List ℕ) → single (39 ∷ bs) ≡ cond (head_is 39 b
 single-quote [] = refl
 single-quote (c ∷ bs) = ap (λ q. cond (39 == c) q (closes (c ∷ bs))) (byte-is 39 (single bs))
 
-first-or : (a b : Bool) → (a || b) ≡ false → a ≡ false
-first-or true b e = absurd cc
-first-or false b e = refl
-
-second-or : (a b : Bool) → (a || b) ≡ false → b ≡ false
-second-or true b e = absurd cc
-second-or false b e = e
-
 pub double-other : (b : ℕ) (bs : List ℕ) → ((b == 34) || (b == 92)) ≡ false → double (b ∷ bs) ≡ with_byte b (double bs)
-double-other b [] e = ap (λ t. cond t (closes []) None) (first-or (b == 34) (b == 92) e)
-double-other b (c ∷ bs) e =
-    ap (λ t. cond t (closes (c ∷ bs)) (cond (b == 92) (cond (is_escape c) (with_byte (escaped c) (double bs)) (wrongly (double (c ∷ bs)))) (with_byte b (double (c ∷ bs))))) (first-or (b == 34) (b == 92) e)
-    ∙ ap (λ t. cond t (cond (is_escape c) (with_byte (escaped c) (double bs)) (wrongly (double (c ∷ bs)))) (with_byte b (double (c ∷ bs)))) (second-or (b == 34) (b == 92) e)
+double-other b [] e = cond-false (b == 34) _ _ (or_parts (b == 34) (b == 92) e).0
+double-other b (c ∷ bs) e = let at = or_parts (b == 34) (b == 92) e in cond-false (b == 34) _ _ at.0 ∙ cond-false (b == 92) _ _ at.1
 
 pub double-quote : (bs : List ℕ) → double (34 ∷ bs) ≡ closes bs
 double-quote [] = refl
 double-quote (c ∷ bs) = refl
 
 -- after a backslash that stands rightly
-pub double-escape : (bs ws : List ℕ) → escape_of bs ≡ Some ws → double (92 ∷ bs) ≡ with_words ws (double (tail_of bs))
+double-escape : (bs ws : List ℕ) → escape_of bs ≡ Some ws → double (92 ∷ bs) ≡ with_words ws (double (tail_of bs))
 double-escape [] ws e = absurd cc
-double-escape (c ∷ bs) ws e = by (is_escape c) refl
-  where
-    by : (t : Bool) → is_escape c ≡ t → double (92 ∷ c ∷ bs) ≡ with_words ws (double bs)
-    by true is =
-        let same : Some (escaped c ∷ []) ≡ Some ws = sym (ap (λ t. cond t (Some (escaped c ∷ [])) None) is) ∙ e in
-        let ws-is : escaped c ∷ [] ≡ ws = cc in
-        ap (λ t. cond t (with_byte (escaped c) (double bs)) (wrongly (double (c ∷ bs)))) is ∙ byte-is (escaped c) (double bs) ∙ ap (λ (x : List ℕ). with_words x (double bs)) ws-is
-    by false is = let bad : None ≡ Some ws = sym (ap (λ t. cond t (Some (escaped c ∷ [])) None) is) ∙ e in absurd cc
+double-escape (c ∷ bs) ws e = elim (cases_Bool (is_escape c)) [
+  | inl is ↦
+      let same : Some (escaped c ∷ []) ≡ Some ws = (λ i. cond (sym is i) (Some (escaped c ∷ [])) None) ∙ e in
+      let words : escaped c ∷ [] ≡ ws = cc in
+      cond-true (is_escape c) _ _ is ∙ byte-is (escaped c) (double bs) ∙ λ i. with_words (words i) (double bs)
+  | inr is ↦ let bad : None ≡ Some ws = (λ i. cond (sym is i) (Some (escaped c ∷ [])) None) ∙ e in absurd cc
+]
 
 -- after one that doesn't
-pub double-misused : (bs : List ℕ) → escape_of bs ≡ None → double (92 ∷ bs) ≡ with_wrong true (double bs)
+double-misused : (bs : List ℕ) → escape_of bs ≡ None → double (92 ∷ bs) ≡ with_wrong true (double bs)
 double-misused [] e = refl
-double-misused (c ∷ bs) e = by (is_escape c) refl
-  where
-    by : (t : Bool) → is_escape c ≡ t → double (92 ∷ c ∷ bs) ≡ with_wrong true (double (c ∷ bs))
-    by true is = let bad : Some (escaped c ∷ []) ≡ None = sym (ap (λ t. cond t (Some (escaped c ∷ [])) None) is) ∙ e in absurd cc
-    by false is = ap (λ t. cond t (with_byte (escaped c) (double bs)) (wrongly (double (c ∷ bs)))) is ∙ wrong-is (double (c ∷ bs))
-
-or-both : (a b : Bool) → (a || b) ≡ true → (a ≡ true) ⊎ (b ≡ true)
-or-both true b e = inl refl
-or-both false b e = inr e
+double-misused (c ∷ bs) e = elim (cases_Bool (is_escape c)) [
+  | inl is ↦ let bad : Some (escaped c ∷ []) ≡ None = (λ i. cond (sym is i) (Some (escaped c ∷ [])) None) ∙ e in absurd cc
+  | inr is ↦ cond-false (is_escape c) _ _ is ∙ wrong-is (double (c ∷ bs))
+]
 
 pub single-found : (bs : List ℕ) (r : Option ℕ) → r ≡ position (λ b. b == 39) bs → single bs ≡ from_place single bs r
 single-found bs r e = found_by single (λ b. b == 39) single-other refl bs r e
@@ -136,48 +118,47 @@ pub double-found : (bs : List ℕ) (r : Option ℕ) → r ≡ position (λ b. (b
 double-found bs r e = found_by double (λ b. (b == 34) || (b == 92)) double-other refl bs r e
 
 pub single-place : (bs : List ℕ) (r : Option ℕ) → r ≡ position (λ b. b == 39) bs → IfSome r (λ i. (i < length bs) × (get_or bs i 0 ≡ 39))
-single-place bs None e = tt
-single-place bs (Some i) e = let h = place_by (λ b. b == 39) bs (Some i) e in (h.0, eqb-true (get_or bs i 0) 39 h.1)
-
-quote_or_backslash : (b : ℕ) → ((b == 34) ≡ true) ⊎ ((b == 92) ≡ true) → (b ≡ 34) ⊎ (b ≡ 92)
-quote_or_backslash b (inl e) = inl (eqb-true b 34 e)
-quote_or_backslash b (inr e) = inr (eqb-true b 92 e)
+single-place bs r e = place_by (λ b. b == 39) (λ b. b ≡ 39) (λ b is. eqb-true b 39 is) bs r e
 
 pub double-place : (bs : List ℕ) (r : Option ℕ) → r ≡ position (λ b. (b == 34) || (b == 92)) bs → IfSome r (λ i. (i < length bs) × ((get_or bs i 0 ≡ 34) ⊎ (get_or bs i 0 ≡ 92)))
-double-place bs None e = tt
-double-place bs (Some i) e =
-    let h = place_by (λ b. (b == 34) || (b == 92)) bs (Some i) e in
-    (h.0, quote_or_backslash (get_or bs i 0) (or-both (get_or bs i 0 == 34) (get_or bs i 0 == 92) h.1))
+double-place bs r e =
+    place_by (λ b. (b == 34) || (b == 92)) (λ b. (b ≡ 34) ⊎ (b ≡ 92)) (λ b is. elim (or_cases (b == 34) (b == 92) is) [ inl f ↦ inl (eqb-true b 34 f) | inr f ↦ inr (eqb-true b 92 f) ]) bs r e
+
+pub ruleset single_marks = (single-found, single-place)
+
+pub ruleset double_marks = (double-found, double-place)
 
 -- ---- what the code does at a backslash
 
 pub unescaped : (w v m rest more : List ℕ) → v ≡ w ++ m → more ≡ tail_of rest → escape_of rest ≡ Some m → with_words v (with_wrong false (double more)) ≡ with_words w (double (92 ∷ rest))
 unescaped w v m rest more v-is more-is e =
-    ap (λ (q : Option Quoted). with_words v q) (wrong-not (double more) ∙ ap double more-is) ∙ ap (λ (x : List ℕ). with_words x (double (tail_of rest))) v-is
-    ∙ sym (words-words w m (double (tail_of rest))) ∙ ap (with_words w) (sym (double-escape rest m e))
+    (λ i. with_words (v-is i) (wrong-not (double (more-is i)) i)) ∙ sym (words-words w m (double (tail_of rest))) ∙ ap (with_words w) (sym (double-escape rest m e))
 
 pub misused : (w rest : List ℕ) → escape_of rest ≡ None → with_words w (with_wrong true (double rest)) ≡ with_words w (double (92 ∷ rest))
 misused w rest e = ap (with_words w) (sym (double-misused rest e))
 
--- ---- what the code does at a quote
+-- ---- what the code does at a mark
 
--- up to the first quote
-pub quote-parts : (text bs front rest : List ℕ) (i : ℕ) → bs ≡ text → single bs ≡ from_place single bs (Some i) → slice_index bs i ≡ 39 → front ≡ take i text → rest ≡ drop (i + 1) text
-    → single text ≡ with_words front (single (39 ∷ rest))
-quote-parts text bs front rest i bs-is value place front-is rest-is =
-    ap single (sym bs-is) ∙ value ∙ ap (λ (b : ℕ). with_words (take i bs) (single (b ∷ drop (i + 1) bs))) place
-    ∙ ap (λ (x : List ℕ). with_words (take i x) (single (39 ∷ drop (i + 1) x))) bs-is
-    ∙ ap (λ (x : List ℕ). with_words x (single (39 ∷ drop (i + 1) text))) (sym front-is) ∙ ap (λ (x : List ℕ). with_words front (single (39 ∷ x))) (sym rest-is)
+-- f reads a text up to its first mark
+pub mark-parts : (f : List ℕ → Option Quoted) (k : ℕ) (text bs front rest : List ℕ) (i : ℕ) → bs ≡ text → f bs ≡ from_place f bs (Some i) → slice_index bs i ≡ k → front ≡ take i text → rest ≡ drop (i + 1) text
+    → f text ≡ with_words front (f (k ∷ rest))
+mark-parts f k text bs front rest i bs-is value place front-is rest-is =
+    ap f (sym bs-is) ∙ value ∙ (λ j. with_words (take i (bs-is j)) (f (place j ∷ drop (i + 1) (bs-is j)))) ∙ λ j. with_words (sym front-is j) (f (k ∷ sym rest-is j))
 
--- a quote that a second one follows
-pub after-pair : (rest : List ℕ) → head_is 39 rest ≡ true → single (39 ∷ rest) ≡ with_words (39 ∷ []) (single (tail_of rest))
-after-pair rest head = single-quote rest ∙ ap (λ t. cond t (with_words (39 ∷ []) (single (tail_of rest))) (closes rest)) head
+pub mark-is : (b : ℕ) → (b ≡ 34) ⊎ (b ≡ 92) → b ≡ cond (b == 92) 92 34
+mark-is b (inl e) = e ∙ λ i. cond (sym e i == 92) 92 34
+mark-is b (inr e) = e ∙ λ i. cond (sym e i == 92) 92 34
 
--- a quote that none follows
+-- ---- at a quote
+
+-- that a second one follows
+after-pair : (rest : List ℕ) → head_is 39 rest ≡ true → single (39 ∷ rest) ≡ with_words (39 ∷ []) (single (tail_of rest))
+after-pair rest head = single-quote rest ∙ cond-true (head_is 39 rest) _ _ head
+
+-- that none follows
 pub after-quote : (w rest : List ℕ) → head_is 39 rest ≡ false → with_words w (single (39 ∷ rest)) ≡ Some (record { text = w; wrong = false; rest = rest })
 after-quote w rest head =
-    ap (with_words w) (single-quote rest ∙ ap (λ t. cond t (with_words (39 ∷ []) (single (tail_of rest))) (closes rest)) head)
-    ∙ ap (λ (x : List ℕ). Some (record { text = x; wrong = false; rest = rest })) (append-nil w)
+    ap (with_words w) (single-quote rest ∙ cond-false (head_is 39 rest) _ _ head) ∙ λ i. Some (record { text = append-nil w i; wrong = false; rest = rest })
 
 tail-le : (bs : List ℕ) → length (tail_of bs) ≤ length bs
 tail-le [] = omega arith
@@ -186,36 +167,24 @@ tail-le (b ∷ bs) = omega arith
 pub shorter-tail : (behind more rest : List ℕ) → more ≡ tail_of rest → length behind < length more → length behind < length rest
 shorter-tail behind more rest is lt = omega (arith, ap length is, tail-le rest)
 
+-- behind a pair of them
+behind-pair : (w more rest : List ℕ) (q : Option Quoted) → head_is 39 rest ≡ true → more ≡ tail_of rest → single more ≡ q → with_words w (single (39 ∷ rest)) ≡ with_words (w ++ 39 ∷ []) q
+behind-pair w more rest q head more-is goes =
+    ap (with_words w) (after-pair rest head) ∙ words-words w (39 ∷ []) (single (tail_of rest)) ∙ ap (with_words (w ++ 39 ∷ [])) (ap single (sym more-is) ∙ goes)
+
 pub pair-turn : (w v u front more rest behind : List ℕ) → head_is 39 rest ≡ true → more ≡ tail_of rest → single more ≡ with_words front (single (39 ∷ behind)) → v ≡ w ++ 39 ∷ [] → u ≡ v ++ front
     → with_words u (single (39 ∷ behind)) ≡ with_words w (single (39 ∷ rest))
 pair-turn w v u front more rest behind head more-is goes v-is u-is =
     let q : Option Quoted = single (39 ∷ behind) in
-    let all : single (39 ∷ rest) ≡ with_words (39 ∷ []) (with_words front q) =
-    after-pair rest head ∙ ap (λ (x : List ℕ). with_words (39 ∷ []) (single x)) (sym more-is) ∙ ap (with_words (39 ∷ [])) goes in
-    ap (λ (x : List ℕ). with_words x q) (u-is ∙ ap (λ (x : List ℕ). x ++ front) v-is) ∙ sym (words-words (w ++ 39 ∷ []) front q) ∙ sym (words-words w (39 ∷ []) (with_words front q)) ∙ ap (with_words w) (sym all)
+    (λ i. with_words ((u-is ∙ λ j. v-is j ++ front) i) q) ∙ sym (behind-pair w more rest (with_words front q) head more-is goes ∙ words-words (w ++ 39 ∷ []) front q)
 
 pub pair-open : (w more rest : List ℕ) → head_is 39 rest ≡ true → more ≡ tail_of rest → single more ≡ None → None ≡ with_words w (single (39 ∷ rest))
-pair-open w more rest head more-is none =
-    sym (ap (with_words w) (after-pair rest head ∙ ap (λ (x : List ℕ). with_words (39 ∷ []) (single x)) (sym more-is) ∙ ap (with_words (39 ∷ [])) none))
+pair-open w more rest head more-is none = sym (behind-pair w more rest None head more-is none)
 
--- ---- what the code does at a mark in double quotes
-
-mark-is : (b : ℕ) → (b ≡ 34) ⊎ (b ≡ 92) → b ≡ cond (b == 92) 92 34
-mark-is b (inl e) = e ∙ sym (ap (λ (n : ℕ). cond (n == 92) 92 34) e)
-mark-is b (inr e) = e ∙ sym (ap (λ (n : ℕ). cond (n == 92) 92 34) e)
-
--- up to the first mark
-pub mark-parts : (text bs front rest : List ℕ) (i : ℕ) → bs ≡ text → double bs ≡ from_place double bs (Some i) → (slice_index bs i ≡ 34) ⊎ (slice_index bs i ≡ 92) → front ≡ take i text → rest ≡ drop (i + 1) text
-    → double text ≡ with_words front (double (cond (slice_index bs i == 92) 92 34 ∷ rest))
-mark-parts text bs front rest i bs-is value place front-is rest-is =
-    ap double (sym bs-is) ∙ value
-    ∙ ap (λ (x : List ℕ). with_words (take i x) (double (slice_index bs i ∷ drop (i + 1) x))) bs-is
-    ∙ ap (λ (x : List ℕ). with_words x (double (slice_index bs i ∷ drop (i + 1) text))) (sym front-is) ∙ ap (λ (x : List ℕ). with_words front (double (slice_index bs i ∷ x))) (sym rest-is)
-    ∙ ap (λ (b : ℕ). with_words front (double (b ∷ rest))) (mark-is (slice_index bs i) place)
+-- ---- at a mark in double quotes
 
 pub double-closed : (front text rest : List ℕ) → double text ≡ with_words front (double (34 ∷ rest)) → double text ≡ Some (record { text = front; wrong = false; rest = rest })
-double-closed front text rest goes =
-    goes ∙ ap (with_words front) (double-quote rest) ∙ ap (λ (x : List ℕ). Some (record { text = x; wrong = false; rest = rest })) (append-nil front)
+double-closed front text rest goes = goes ∙ ap (with_words front) (double-quote rest) ∙ λ i. Some (record { text = append-nil front i; wrong = false; rest = rest })
 
 -- a turn of the reading of escapes: what the backslash stood for has been added
 pub turn-wrong : (w v : List ℕ) (wrong misused : Bool) (x y : Option Quoted) → with_words v (with_wrong misused x) ≡ with_words w y → with_words v (with_wrong (wrong || misused) x) ≡ with_words w (with_wrong wrong y)
@@ -224,13 +193,8 @@ turn-wrong w v wrong misused x y e =
 
 pub turn-front : (v u front : List ℕ) (wrong : Bool) (x y : Option Quoted) → u ≡ v ++ front → x ≡ with_words front y → with_words u (with_wrong wrong y) ≡ with_words v (with_wrong wrong x)
 turn-front v u front wrong x y u-is x-is =
-    ap (λ (t : List ℕ). with_words t (with_wrong wrong y)) u-is ∙ sym (words-words v front (with_wrong wrong y)) ∙ ap (with_words v) (sym (wrong-words wrong front y)) ∙ ap (λ (q : Option Quoted). with_words v (with_wrong wrong q)) (sym x-is)
+    (λ i. with_words (u-is i) (with_wrong wrong y)) ∙ sym (words-words v front (with_wrong wrong y)) ∙ ap (with_words v) (sym (wrong-words wrong front y) ∙ λ i. with_wrong wrong (sym x-is i))
 
 pub turn-closed : (u behind : List ℕ) (wrong : Bool) → with_words u (with_wrong wrong (double (34 ∷ behind))) ≡ Some (record { text = u; wrong = wrong; rest = behind })
 turn-closed u behind wrong =
-    ap (λ (q : Option Quoted). with_words u (with_wrong wrong q)) (double-quote behind)
-    ∙ ap (λ (x : List ℕ). Some (record { text = x; wrong = wrong || false; rest = behind })) (append-nil u) ∙ ap (λ t. Some (record { text = u; wrong = t; rest = behind })) (or-end wrong)
-  where
-    or-end : (b : Bool) → (b || false) ≡ b
-    or-end true = refl
-    or-end false = refl
+    (λ i. with_words u (with_wrong wrong (double-quote behind i))) ∙ λ i. Some (record { text = append-nil u i; wrong = or_false wrong i; rest = behind })

@@ -1,6 +1,6 @@
 -- Searches from byte to byte.
-use Rattle.std.proofs.Common.{◌≡◌, ℕ, ◌+◌, ◌-◌, ◌<◌, ◌≤◌, Bool, true, false, cond, List, [], ◌∷◌, length, take, drop, get_or, sym, ◌∙◌, ap, arith, ◌==◌, ◌&&◌, ◌||◌}
-use Rattle.ci_yaml_lines.specs.Prelude.{space_next, key_len}
+use Rattle.std.proofs.Common.{◌≡◌, ℕ, ◌+◌, ◌-◌, ◌<◌, ◌≤◌, Bool, false, cond, List, [], ◌∷◌, length, take, drop, get_or, refl, sym, ◌∙◌, ap, arith, ◌==◌, ◌&&◌, ◌||◌}
+use Rattle.ci_yaml_lines.specs.Prelude.{space_next, head_is, tail_of, key_len, has_tab_after, has_colon, has_inner, has_byte_order_mark}
 use Rattle.ci_yaml_lines.proofs.Lists.{take-past}
 
 -- what follows the first
@@ -11,41 +11,62 @@ first-parted : (xs : List ℕ) → 1 ≤ length xs → xs ≡ get_or xs 0 0 ∷ 
 first-parted [] le = absurd (omega arith)
 first-parted (x ∷ xs) le = let past : length xs ≤ length (x ∷ xs) - 1 = omega arith in ap (λ (ys : List ℕ). x ∷ ys) (sym (take-past (length (x ∷ xs) - 1) xs past))
 
-length-rest_of : (xs : List ℕ) → 1 ≤ length xs → 1 + length (rest_of xs) ≡ length xs
-length-rest_of xs le = omega (arith, ap length (first-parted xs le))
+pub rest_length : (xs : List ℕ) → 1 ≤ length xs → 1 + length (rest_of xs) ≡ length xs
+rest_length xs le = omega (arith, ap length (first-parted xs le))
 
 -- S says whether P holds of a byte and of what follows it.
 abbrev pub Searches : (S : List ℕ → Bool) (P : ℕ → List ℕ → Bool) → Type 0
 Searches S P = (b : ℕ) (bs : List ℕ) → S (b ∷ bs) ≡ (P b bs || S bs)
 
-pub search-found : (S : List ℕ → Bool) (P : ℕ → List ℕ → Bool) → Searches S P → (xs : List ℕ) → 1 ≤ length xs → P (get_or xs 0 0) (rest_of xs) ≡ true → true ≡ S xs
-search-found S P by xs le e = sym (ap S (first-parted xs le) ∙ by (get_or xs 0 0) (rest_of xs) ∙ ap (λ t. t || S (rest_of xs)) e)
+search-step : (S : List ℕ → Bool) (P : ℕ → List ℕ → Bool) → Searches S P → (xs : List ℕ) → 1 ≤ length xs → S xs ≡ (P (get_or xs 0 0) (rest_of xs) || S (rest_of xs))
+search-step S P by xs le = ap S (first-parted xs le) ∙ by (get_or xs 0 0) (rest_of xs)
 
-pub search-on : (S : List ℕ → Bool) (P : ℕ → List ℕ → Bool) → Searches S P → (xs : List ℕ) → 1 ≤ length xs → P (get_or xs 0 0) (rest_of xs) ≡ false → S (rest_of xs) ≡ S xs
-search-on S P by xs le e = sym (ap S (first-parted xs le) ∙ by (get_or xs 0 0) (rest_of xs) ∙ ap (λ t. t || S (rest_of xs)) e)
-
-pub search-end : (S : List ℕ → Bool) → S [] ≡ false → (xs : List ℕ) → length xs < 1 → false ≡ S xs
-search-end S none [] lt = sym none
+search-end : (S : List ℕ → Bool) → S [] ≡ false → (xs : List ℕ) → length xs < 1 → S xs ≡ false
+search-end S none [] lt = none
 search-end S none (x ∷ xs) lt = absurd (omega arith)
+
+abbrev pub tab_here : ℕ → List ℕ → Bool
+tab_here b rest = ((b == 45) || (b == 58)) && head_is 9 rest
+
+abbrev pub colon_here : ℕ → List ℕ → Bool
+colon_here b rest = (b == 58) && space_next rest
+
+abbrev pub inner_here : ℕ → List ℕ → Bool
+inner_here b rest = ((b == 91) || ((b == 123) || (b == 125))) || ((b == 58) && head_is 32 rest)
+
+abbrev mark_here : ℕ → List ℕ → Bool
+mark_here b rest = (b == 239) && (head_is 187 rest && head_is 191 (tail_of rest))
+
+pub tab_step : (xs : List ℕ) → 1 ≤ length xs → has_tab_after xs ≡ (tab_here (get_or xs 0 0) (rest_of xs) || has_tab_after (rest_of xs))
+tab_step xs le = search-step has_tab_after tab_here (λ _ _. refl) xs le
+
+pub tab_end : (xs : List ℕ) → length xs < 1 → has_tab_after xs ≡ false
+tab_end xs lt = search-end has_tab_after refl xs lt
+
+pub colon_step : (xs : List ℕ) → 1 ≤ length xs → has_colon xs ≡ (colon_here (get_or xs 0 0) (rest_of xs) || has_colon (rest_of xs))
+colon_step xs le = search-step has_colon colon_here (λ _ _. refl) xs le
+
+pub colon_end : (xs : List ℕ) → length xs < 1 → has_colon xs ≡ false
+colon_end xs lt = search-end has_colon refl xs lt
+
+pub inner_step : (xs : List ℕ) → 1 ≤ length xs → has_inner xs ≡ (inner_here (get_or xs 0 0) (rest_of xs) || has_inner (rest_of xs))
+inner_step xs le = search-step has_inner inner_here (λ _ _. refl) xs le
+
+pub inner_end : (xs : List ℕ) → length xs < 1 → has_inner xs ≡ false
+inner_end xs lt = search-end has_inner refl xs lt
+
+pub mark_step : (xs : List ℕ) → 1 ≤ length xs → has_byte_order_mark xs ≡ (mark_here (get_or xs 0 0) (rest_of xs) || has_byte_order_mark (rest_of xs))
+mark_step xs le = search-step has_byte_order_mark mark_here (λ _ _. refl) xs le
+
+pub mark_end : (xs : List ℕ) → length xs < 1 → has_byte_order_mark xs ≡ false
+mark_end xs lt = search-end has_byte_order_mark refl xs lt
 
 -- ---- a key
 
-abbrev stops : ℕ → ℕ → List ℕ → Bool
-stops last b bs = ((b == 35) && (last == 32)) || ((b == 58) && space_next bs)
+pub key_step : (last : ℕ) (xs : List ℕ) → 1 ≤ length xs
+    → key_len last xs ≡ cond (((get_or xs 0 0 == 35) && (last == 32)) || ((get_or xs 0 0 == 58) && space_next (rest_of xs))) 0 (1 + key_len (get_or xs 0 0) (rest_of xs))
+key_step last xs le = ap (key_len last) (first-parted xs le)
 
-key-first : (last : ℕ) (xs : List ℕ) → 1 ≤ length xs → key_len last xs ≡ cond (stops last (get_or xs 0 0) (rest_of xs)) 0 (1 + key_len (get_or xs 0 0) (rest_of xs))
-key-first last xs le = ap (key_len last) (first-parted xs le)
-
--- n is the length of the whole text
-pub key-found : (n last k : ℕ) (xs : List ℕ) → 1 ≤ length xs → stops last (get_or xs 0 0) (rest_of xs) ≡ true → n - length xs + key_len last xs ≡ k → n - length xs ≡ k
-key-found n last k xs le e is = omega (arith, key-first last xs le ∙ ap (λ t. cond t 0 (1 + key_len (get_or xs 0 0) (rest_of xs))) e)
-
-pub key-on : (n last k : ℕ) (xs : List ℕ) → 1 ≤ length xs → length xs ≤ n → stops last (get_or xs 0 0) (rest_of xs) ≡ false → n - length xs + key_len last xs ≡ k → n - length (rest_of xs) + key_len (get_or xs 0 0) (rest_of xs) ≡ k
-key-on n last k xs le within e is = omega (arith, length-rest_of xs le, key-first last xs le ∙ ap (λ t. cond t 0 (1 + key_len (get_or xs 0 0) (rest_of xs))) e)
-
-pub key-within : (n : ℕ) (xs : List ℕ) → 1 ≤ length xs → length xs ≤ n → length (rest_of xs) ≤ n
-key-within n xs le within = omega (arith, length-rest_of xs le)
-
-pub key-end : (n last k : ℕ) (xs : List ℕ) → length xs < 1 → n - length xs + key_len last xs ≡ k → n ≡ k
-key-end n last k [] lt is = omega arith
-key-end n last k (x ∷ xs) lt is = absurd (omega arith)
+pub key_end : (last : ℕ) (xs : List ℕ) → length xs < 1 → key_len last xs ≡ 0
+key_end last [] lt = refl
+key_end last (x ∷ xs) lt = absurd (omega arith)

@@ -1,7 +1,6 @@
 -- Where the texts of a list on one line stand.
-use Rattle.std.proofs.Common.{◌≡◌, ℕ, suc, ◌+◌, Bool, true, false, cond, List, [], ◌∷◌, ◌++◌, length, take, drop, ◌⊎◌, inl, inr, refl, sym, ◌∙◌, ap, subst, append_assoc, arith}
-use Rattle.std.proofs.Common.{rules, ◌==◌, Result, Ok, Err, IfOk}
-use Rattle.std.proofs.lemmas.Bool.{eqb-true}
+use Rattle.std.proofs.Common.{◌≡◌, ℕ, false, List, [], ◌∷◌, ◌++◌, length, take, drop, ◌⊎◌, inl, inr, refl, sym, ◌∙◌, ap, subst, append_assoc, rules, ◌==◌, Result, Ok, Err, IfOk}
+use Rattle.std.proofs.lemmas.Bool.{eqb-true, cases_Bool, cond_both}
 use Rattle.std.proofs.lemmas.List.{append-nil, take-append-drop}
 use Rattle.std.proofs.Math.Seq.{drop-append_seam}
 use Rattle.ci_yaml_lines.specs.Prelude.{is_blank, blanks, drop_blanks, trimmed_len, trim_end, tail_of, place_len, end_of, cut_place, SourceLine, Span, Tree, Null as NullTree}
@@ -13,6 +12,7 @@ use Rattle.ci_yaml_lines.specs.declared.tree.Tree.{Text as TextTree}
 use Rattle.ci_yaml_lines.specs.declared.flow.End.{End}
 use Rattle.ci_yaml_lines.specs.declared.flow.Listed.{Listed}
 use Rattle.ci_yaml_lines.specs.Spans.{plain}
+use Rattle.ci_yaml_lines.proofs.FlowLists.{blank-on, blank-off}
 use Rattle.ci_yaml_lines.proofs.SpansTexts.{texts-Text, items_texts-push}
 use Rattle.ci_yaml_lines.proofs.SpansStand.{stand-earlier, stand-none, stand-then, stand-all, stand-one}
 
@@ -27,7 +27,7 @@ pub ends-none : (bs : List ℕ) → EndsIn bs []
 ends-none bs = record { front = bs; parts = sym (append-nil bs) }
 
 pub ends-more : (front bs cs : List ℕ) → EndsIn bs cs → EndsIn (front ++ bs) cs
-ends-more front bs cs h = record { front = front ++ h.front; parts = ap (λ (x : List ℕ). front ++ x) h.parts ∙ sym (append_assoc front h.front cs) }
+ends-more front bs cs h = record { front = front ++ h.front; parts = (λ i. front ++ h.parts i) ∙ sym (append_assoc front h.front cs) }
 
 pub ends-drop : (n : ℕ) (bs : List ℕ) → EndsIn bs (drop n bs)
 ends-drop n bs = record { front = take n bs; parts = sym (take-append-drop n bs) }
@@ -37,7 +37,7 @@ ends-tail [] = record { front = []; parts = refl }
 ends-tail (b ∷ bs) = record { front = b ∷ []; parts = refl }
 
 pub ends-then : (bs cs ds : List ℕ) → EndsIn bs cs → EndsIn cs ds → EndsIn bs ds
-ends-then bs cs ds h i = record { front = h.front ++ i.front; parts = h.parts ∙ ap (λ (x : List ℕ). h.front ++ x) i.parts ∙ sym (append_assoc h.front i.front ds) }
+ends-then bs cs ds h i = record { front = h.front ++ i.front; parts = h.parts ∙ (λ j. h.front ++ i.parts j) ∙ sym (append_assoc h.front i.front ds) }
 
 pub stand-end : (at : SourceLine) (bs cs : List ℕ) → EndsIn bs cs → Stand at bs [] cs
 stand-end at bs cs h = none bs h.front cs h.parts
@@ -47,14 +47,6 @@ stand-within at bs cs ds ts h stand = stand-earlier at bs cs ds h.front ts h.par
 
 -- ---- behind blanks
 
-blank-on : (b : ℕ) (bs : List ℕ) → is_blank b ≡ true → drop_blanks (b ∷ bs) ≡ drop_blanks bs
-blank-on b bs e =
-    let one : 1 + blanks bs ≡ suc (blanks bs) = omega arith in
-    ap (λ t. drop (cond t (1 + blanks bs) 0) (b ∷ bs)) e ∙ ap (λ (n : ℕ). drop n (b ∷ bs)) one
-
-blank-off : (b : ℕ) (bs : List ℕ) → is_blank b ≡ false → drop_blanks (b ∷ bs) ≡ b ∷ bs
-blank-off b bs e = ap (λ t. drop (cond t (1 + blanks bs) 0) (b ∷ bs)) e
-
 -- what of these bytes follows those that come before them
 record Follows (front bs : List ℕ) : Type 0 where
   pub rest : List ℕ
@@ -63,27 +55,19 @@ record Follows (front bs : List ℕ) : Type 0 where
 
 follows : (front bs : List ℕ) → Follows front bs
 follows [] bs = record { rest = drop_blanks bs; parts = refl; whole = inr refl }
-follows (b ∷ front) bs = by (is_blank b) refl (follows front bs)
-  where
-    by : (t : Bool) → is_blank b ≡ t → Follows front bs → Follows (b ∷ front) bs
-    by true is h = record {
-      rest = h.rest;
-      parts = blank-on b (front ++ bs) is ∙ h.parts ∙ ap (λ (x : List ℕ). x ++ h.rest) (sym (blank-on b front is));
-      whole = h.whole;
-    }
-    by false is h = record {
-      rest = bs;
-      parts = blank-off b (front ++ bs) is ∙ ap (λ (x : List ℕ). x ++ bs) (sym (blank-off b front is));
-      whole = inl refl;
-    }
+follows (b ∷ front) bs = elim (cases_Bool (is_blank b)) [
+  | inl is ↦
+      let h = follows front bs in
+      record { rest = h.rest; parts = blank-on b (front ++ bs) is ∙ h.parts ∙ λ i. sym (blank-on b front is) i ++ h.rest; whole = h.whole }
+  | inr is ↦ record { rest = bs; parts = blank-off b (front ++ bs) is ∙ λ i. sym (blank-off b front is) i ++ bs; whole = inl refl }
+]
 
 ends-blank : (front : List ℕ) (b : ℕ) (bs : List ℕ) → is_blank b ≡ false → EndsIn (drop_blanks (front ++ b ∷ bs)) bs
 ends-blank [] b bs e = record { front = b ∷ []; parts = blank-off b bs e }
-ends-blank (c ∷ front) b bs e = by (is_blank c) refl (ends-blank front b bs e)
-  where
-    by : (t : Bool) → is_blank c ≡ t → EndsIn (drop_blanks (front ++ b ∷ bs)) bs → EndsIn (drop_blanks (c ∷ front ++ b ∷ bs)) bs
-    by true is h = record { front = h.front; parts = blank-on c (front ++ b ∷ bs) is ∙ h.parts }
-    by false is h = record { front = (c ∷ front) ++ b ∷ []; parts = blank-off c (front ++ b ∷ bs) is ∙ sym (append_assoc (c ∷ front) (b ∷ []) bs) }
+ends-blank (c ∷ front) b bs e = elim (cases_Bool (is_blank c)) [
+  | inl is ↦ subst (λ (x : List ℕ). EndsIn x bs) (sym (blank-on c (front ++ b ∷ bs) is)) (ends-blank front b bs e)
+  | inr is ↦ subst (λ (x : List ℕ). EndsIn x bs) (sym (blank-off c (front ++ b ∷ bs) is)) (ends-more (c ∷ front) (b ∷ bs) bs (ends-tail (b ∷ bs)))
+]
 
 -- ---- where a place ends
 
@@ -106,15 +90,10 @@ both-blank front b bs e = (ends-more front (b ∷ bs) bs (ends-tail (b ∷ bs)),
 
 end-both : (front bs : List ℕ) → EndBoth (front ++ bs) (behind (end_of bs))
 end-both front [] = (ends-none (front ++ []), ends-none (drop_blanks (front ++ [])))
-end-both front (b ∷ bs) = by (b == 44) refl
-  where
-    second : (t : Bool) → (b == 93) ≡ t → EndBoth (front ++ b ∷ bs) (behind (cond t (line.bracket bs) line.missing))
-    second true is = both-blank front b bs (ap is_blank (eqb-true b 93 is))
-    second false is = (ends-none (front ++ b ∷ bs), ends-none (drop_blanks (front ++ b ∷ bs)))
-
-    by : (t : Bool) → (b == 44) ≡ t → EndBoth (front ++ b ∷ bs) (behind (cond t (line.comma bs) (cond (b == 93) (line.bracket bs) line.missing)))
-    by true is = both-blank front b bs (ap is_blank (eqb-true b 44 is))
-    by false is = second (b == 93) refl
+end-both front (b ∷ bs) =
+    let P : line.End → Type 0 = λ e. EndBoth (front ++ b ∷ bs) (behind e) in
+    cond_both (b == 44) _ _ P (λ is. both-blank front b bs (ap is_blank (eqb-true b 44 is)))
+    (λ _. cond_both (b == 93) _ _ P (λ is. both-blank front b bs (ap is_blank (eqb-true b 93 is))) (λ _. (ends-none (front ++ b ∷ bs), ends-none (drop_blanks (front ++ b ∷ bs)))))
 
 -- what a cut leaves
 pub ends-cut : (last : ℕ) (bs : List ℕ) (c : Cut) → cut_view c ≡ cut_place last bs → EndsIn bs (behind_end c.end)
@@ -140,18 +119,16 @@ pub stand-front-of : (at : SourceLine) (bs raw d scalar from cs : List ℕ) (len
 stand-front-of at bs raw d scalar from cs len span ts bs-is scalar-is from-is len-is ends span-is only =
     let k : ℕ = trimmed_len raw in
     let h : Follows (trim_end raw) (drop k raw ++ d) = follows (trim_end raw) (drop k raw ++ d) in
-    let parts : bs ≡ trim_end raw ++ (drop k raw ++ d) =
-    bs-is ∙ ap (λ (x : List ℕ). x ++ d) (sym (take-append-drop k raw)) ∙ append_assoc (trim_end raw) (drop k raw) d in
-    let from-parts : from ≡ scalar ++ h.rest = from-is ∙ ap drop_blanks parts ∙ h.parts ∙ ap (λ (x : List ℕ). x ++ h.rest) (sym scalar-is) in
-    let behind-is : drop len from ≡ h.rest =
-    ap (λ (n : ℕ). drop n from) len-is ∙ ap (drop (length scalar)) from-parts ∙ drop-append_seam scalar h.rest in
+    let parts : bs ≡ trim_end raw ++ (drop k raw ++ d) = bs-is ∙ (λ i. sym (take-append-drop k raw) i ++ d) ∙ append_assoc (trim_end raw) (drop k raw) d in
+    let from-parts : from ≡ scalar ++ h.rest = from-is ∙ ap drop_blanks parts ∙ h.parts ∙ λ i. sym scalar-is i ++ h.rest in
+    let behind-is : drop len from ≡ h.rest = (λ i. drop (len-is i) (from-parts i)) ∙ drop-append_seam scalar h.rest in
     let begins : EndsIn bs (scalar ++ h.rest) = subst (EndsIn bs) (sym from-is ∙ from-parts) (ends-drop (blanks bs) bs) in
     stand-only at bs scalar h.rest cs span ts begins
     (elim h.whole [
       | inl e ↦ subst (λ (x : List ℕ). EndsIn x cs) (sym e) (ends (drop k raw)).0
       | inr e ↦ subst (λ (x : List ℕ). EndsIn x cs) (sym e) (ends (drop k raw)).1
     ])
-    (span-is ∙ ap (span_before at from) behind-is ∙ ap (λ (x : List ℕ). span_before at x h.rest) from-parts) only
+    (span-is ∙ λ i. span_before at (from-parts i) (behind-is i)) only
 
 pub stand-plain-place : (at : SourceLine) (bs trimmed scalar from : List ℕ) (c : Cut) (len : ℕ) (span : Span) (ts : List Text) → cut_view c ≡ cut_place 44 bs → trimmed ≡ trim_end c.raw.now → scalar ≡ drop_blanks trimmed
     → from ≡ drop_blanks bs → len ≡ length scalar → span ≡ span_before at from (drop len from) → OnlyText scalar span ts → Stand at bs ts (behind_end c.end)
@@ -160,7 +137,7 @@ stand-plain-place at bs trimmed scalar from c len span ts cut-is trimmed-is scal
     let raw-is : c.raw.now ≡ take n bs = ap (λ (x : line.Cut). x.raw) cut-is in
     let end-is : behind_end c.end ≡ behind (end_of (drop n bs)) = behind-is c.end ∙ ap (λ (x : line.Cut). behind x.end) cut-is in
     stand-front-of at bs c.raw.now (drop n bs) scalar from (behind_end c.end) len span ts
-    (sym (take-append-drop n bs) ∙ ap (λ (x : List ℕ). x ++ drop n bs) (sym raw-is)) (scalar-is ∙ ap drop_blanks trimmed-is) from-is len-is
+    (sym (take-append-drop n bs) ∙ λ i. sym raw-is i ++ drop n bs) (scalar-is ∙ ap drop_blanks trimmed-is) from-is len-is
     (λ front. subst (EndBoth (front ++ drop n bs)) (sym end-is) (end-both front (drop n bs))) span-is only
 
 -- behind a quoted scalar

@@ -31,25 +31,24 @@ stand-empty at bs t e is = subst (λ (ts : List Text). Stand at bs ts bs) (sym (
 
 -- without the blanks at its end
 pub trimmed-parts : (raw text : List ℕ) → text ≡ trim_end raw → raw ≡ text ++ drop (trimmed_len raw) raw
-trimmed-parts raw text e = sym (take-append-drop (trimmed_len raw) raw) ∙ ap (λ (x : List ℕ). x ++ drop (trimmed_len raw) raw) (sym e)
+trimmed-parts raw text e = sym (take-append-drop (trimmed_len raw) raw) ∙ λ i. sym e i ++ drop (trimmed_len raw) raw
 
 -- a plain scalar, and behind it its blanks and the rest, which end in `c`
 pub stand-trimmed : (at : SourceLine) (bs raw scalar rest c : List ℕ) (span : Span) (ts : List Text) → bs ≡ raw ++ rest → scalar ≡ trim_end raw → span ≡ span_before at bs (drop (length scalar) bs)
     → EndsIn (drop (trimmed_len raw) raw ++ rest) c → OnlyText scalar span ts → Stand at bs ts c
 stand-trimmed at bs raw scalar rest c span ts parts scalar-is span-is ends only =
     let behind : List ℕ = drop (trimmed_len raw) raw ++ rest in
-    let all : bs ≡ scalar ++ behind =
-    parts ∙ ap (λ (x : List ℕ). x ++ rest) (trimmed-parts raw scalar scalar-is) ∙ append_assoc scalar (drop (trimmed_len raw) raw) rest in
+    let all : bs ≡ scalar ++ behind = parts ∙ (λ i. trimmed-parts raw scalar scalar-is i ++ rest) ∙ append_assoc scalar (drop (trimmed_len raw) raw) rest in
     let behind-is : drop (length scalar) bs ≡ behind = ap (drop (length scalar)) all ∙ drop-append_seam scalar behind in
     stand-only at bs scalar behind c span ts (record { front = []; parts = all }) ends
-    (span-is ∙ ap (span_before at bs) behind-is ∙ ap (λ (x : List ℕ). span_before at x behind) all) only
+    (span-is ∙ λ i. span_before at (all i) (behind-is i)) only
 
 -- a plain scalar up to a comment
 pub stand-plain : (at : SourceLine) (bs raw scalar : List ℕ) (span : Span) (ts : List Text) → raw ≡ before_comment 0 bs → scalar ≡ trim_end raw → span ≡ span_before at bs (drop (length scalar) bs)
     → OnlyText scalar span ts → Stand at bs ts []
 stand-plain at bs raw scalar span ts raw-is scalar-is span-is only =
     let n : ℕ = comment_len 0 bs in
-    let parts : bs ≡ raw ++ drop n bs = sym (take-append-drop n bs) ∙ ap (λ (x : List ℕ). x ++ drop n bs) (sym raw-is) in
+    let parts : bs ≡ raw ++ drop n bs = sym (take-append-drop n bs) ∙ λ i. sym raw-is i ++ drop n bs in
     stand-trimmed at bs raw scalar (drop n bs) [] span ts parts scalar-is span-is (ends-none (drop (trimmed_len raw) raw ++ drop n bs)) only
 
 -- ---- what is written

@@ -1,6 +1,7 @@
 -- Where the texts of a line stand.
-use Rattle.std.proofs.Common.{◌≡◌, ℕ, ◌+◌, ◌-◌, ◌≤◌, Bool, true, false, cond, List, [], ◌∷◌, ◌++◌, length, take, drop, Option, Some, None, refl, sym, ◌∙◌, ap, subst, append_assoc}
-use Rattle.std.proofs.Common.{arith, length-append, length-drop, IfSome}
+use Rattle.std.proofs.Common.{◌≡◌, ℕ, ◌+◌, ◌-◌, ◌≤◌, List, [], ◌∷◌, ◌++◌, length, take, drop, Option, Some, None, refl, sym, ◌∙◌, ap, subst, append_assoc, arith, length-append}
+use Rattle.std.proofs.Common.{length-drop, IfSome}
+use Rattle.std.proofs.lemmas.Bool.{cond_both}
 use Rattle.std.proofs.lemmas.List.{append-nil, take-append-drop}
 use Rattle.std.proofs.lemmas.List.Sums.{prefix_len-le-length}
 use Rattle.ci_yaml_lines.specs.Prelude.{SourceLine, Dash, IsLent, tail_of, drop_blanks, blanks, head_is, trim_end, trimmed_len, Split, split_colon, key_len, spaces, is_space}
@@ -18,22 +19,20 @@ use Rattle.ci_yaml_lines.proofs.SpansGiven.{stand-tail, stand_drop, stand-trimme
 
 -- ---- keys
 
-split-is : (b : Bool) (s t : Split) → cond b (Some s) None ≡ Some t → t ≡ s
-split-is true s t e = cc
-split-is false s t e = absurd cc
-
 -- what comes before the colon, and what behind it
-pub split-parts : (bs raw rest : List ℕ) → split_colon bs ≡ Some (record { raw = raw; rest = rest }) → (raw ≡ take (key_len 0 bs) bs) × (rest ≡ tail_of (drop (key_len 0 bs) bs))
-split-parts bs raw rest e =
-    let same = split-is (head_is 58 (drop (key_len 0 bs) bs)) (record { raw = take (key_len 0 bs) bs; rest = tail_of (drop (key_len 0 bs) bs) }) (record { raw = raw; rest = rest }) e in
-    (ap (λ (s : Split). s.raw) same, ap (λ (s : Split). s.rest) same)
+split-parts : (bs raw rest : List ℕ) → split_colon bs ≡ Some (record { raw = raw; rest = rest }) → (raw ≡ take (key_len 0 bs) bs) × (rest ≡ tail_of (drop (key_len 0 bs) bs))
+split-parts bs raw rest =
+    let there : Split = record { raw = raw; rest = rest } in
+    let here : Split = record { raw = take (key_len 0 bs) bs; rest = tail_of (drop (key_len 0 bs) bs) } in
+    cond_both (head_is 58 (drop (key_len 0 bs) bs)) (Some here) None (λ o. o ≡ Some there → (raw ≡ here.raw) × (rest ≡ here.rest))
+    (λ _ e. let same : there ≡ here = cc in (λ i. (same i).raw, λ i. (same i).rest)) (λ _ e. absurd cc)
 
 pub stand-key : (at : SourceLine) (bs raw rest name : List ℕ) (t : Text) → split_colon bs ≡ Some (record { raw = raw; rest = rest }) → name ≡ trim_end raw → IsLent name t.words
     → t.span ≡ span_before at bs (drop (length name) bs) → Stand at bs (t ∷ []) rest
 stand-key at bs raw rest name t e name-is words-are span-is =
     let from : List ℕ = drop (key_len 0 bs) bs in
     let split = split-parts bs raw rest e in
-    let parts : bs ≡ raw ++ from = sym (take-append-drop (key_len 0 bs) bs) ∙ ap (λ (x : List ℕ). x ++ from) (sym split.0) in
+    let parts : bs ≡ raw ++ from = sym (take-append-drop (key_len 0 bs) bs) ∙ λ i. sym split.0 i ++ from in
     let ends : EndsIn from rest = subst (EndsIn from) (sym split.1) (ends-tail from) in
     stand-trimmed at bs raw name from rest t.span (t ∷ []) parts name-is span-is (ends-more (drop (trimmed_len raw) raw) from rest ends) (words-are, refl)
 
@@ -49,7 +48,7 @@ stand-quoted-key at bs (Some q) (Some k) stand is =
 
 pub entries-texts-push : (es : List Entry) (e : Entry) → entries_texts (es ++ e ∷ []) ≡ entries_texts es ++ entry_texts e
 entries-texts-push [] e = append-nil (entry_texts e)
-entries-texts-push (x ∷ es) e = ap (λ (ts : List Text). entry_texts x ++ ts) (entries-texts-push es e) ∙ sym (append_assoc (entry_texts x) (entries_texts es) (entry_texts e))
+entries-texts-push (x ∷ es) e = (λ i. entry_texts x ++ entries-texts-push es e i) ∙ sym (append_assoc (entry_texts x) (entries_texts es) (entry_texts e))
 
 pub key-goes : (at : SourceLine) (ts us all : List Text) (t : Text) (rest : List ℕ) → Stand at rest us [] → all ≡ ts ++ ((t ∷ []) ++ us) → GoOn at (ts ++ t ∷ []) rest all
 key-goes at ts us all t rest behind e bs before =

@@ -1,5 +1,5 @@
 -- The laws of the texts that stand one behind the other in a line.
-use Rattle.std.proofs.Common.{◌≡◌, ℕ, ◌+◌, ◌-◌, List, [], ◌∷◌, ◌++◌, length, refl, sym, ◌∙◌, ap, append_assoc, arith}
+use Rattle.std.proofs.Common.{◌≡◌, ℕ, ◌+◌, ◌-◌, List, [], ◌∷◌, ◌++◌, length, refl, sym, ◌∙◌, append_assoc, arith}
 use Rattle.std.proofs.lemmas.List.{append-nil, length-append}
 use Rattle.ci_yaml_lines.specs.Prelude.{SourceLine, Writes, span_before, Stand, none}
 use Rattle.ci_yaml_lines.specs.declared.tree.Text.{Text}
@@ -8,11 +8,10 @@ use Rattle.ci_yaml_lines.specs.Spans.{more}
 -- from further in front
 pub stand-earlier : (at : SourceLine) (a b c front : List ℕ) (ts : List Text) → a ≡ front ++ b → Stand at b ts c → Stand at a ts c
 stand-earlier at a b c front [] e (none bs skipped rest is) =
-    none a (front ++ skipped) c (e ∙ ap (λ (x : List ℕ). front ++ x) is ∙ sym (append_assoc front skipped c))
+    none a (front ++ skipped) c (e ∙ (λ i. front ++ is i) ∙ sym (append_assoc front skipped c))
 stand-earlier at a b c front (t ∷ ts) e (more bs skipped raw behind rest u us is written span stand) =
     more a (front ++ skipped) raw behind c t ts
-    (e ∙ ap (λ (x : List ℕ). front ++ x) is ∙ sym (append_assoc front (skipped ++ raw) behind) ∙ ap (λ (x : List ℕ). x ++ behind) (sym (append_assoc front skipped raw)))
-    written span stand
+    (e ∙ (λ i. front ++ is i) ∙ sym (append_assoc front (skipped ++ raw) behind) ∙ λ i. sym (append_assoc front skipped raw) i ++ behind) written span stand
 
 -- nothing stands there, and the rest is all
 pub stand-none : (at : SourceLine) (a : List ℕ) → Stand at a [] a
@@ -50,18 +49,16 @@ less e n m k is = omega arith
 
 pub span-longer : (at : SourceLine) (a b xs : List ℕ) → span_before (longer at xs) (a ++ xs) (b ++ xs) ≡ span_before at a b
 span-longer at a b xs =
-    let from : at.end + length xs - length (a ++ xs) ≡ at.end - length a = less at.end (length (a ++ xs)) (length a) (length xs) (length-append a xs) in
-    let to : at.end + length xs - length (b ++ xs) ≡ at.end - length b = less at.end (length (b ++ xs)) (length b) (length xs) (length-append b xs) in
-    ap (λ (n : ℕ). record { start = record { line = at.line; column = n }; end = record { line = at.line; column = at.end + length xs - length (b ++ xs) } }) from
-    ∙ ap (λ (n : ℕ). record { start = record { line = at.line; column = at.end - length a }; end = record { line = at.line; column = n } }) to
+    let from = less at.end (length (a ++ xs)) (length a) (length xs) (length-append a xs) in
+    let to = less at.end (length (b ++ xs)) (length b) (length xs) (length-append b xs) in
+    λ i. record { start = record { line = at.line; column = from i }; end = record { line = at.line; column = to i } }
 
 -- The line goes on behind the text and the rest.
 pub stand-longer : (at : SourceLine) (a b xs : List ℕ) (ts : List Text) → Stand at a ts b → Stand (longer at xs) (a ++ xs) ts (b ++ xs)
 stand-longer at a b xs [] (none bs front rest is) =
-    none (a ++ xs) front (b ++ xs) (ap (λ (x : List ℕ). x ++ xs) is ∙ append_assoc front b xs)
+    none (a ++ xs) front (b ++ xs) ((λ i. is i ++ xs) ∙ append_assoc front b xs)
 stand-longer at a b xs (t ∷ ts) (more bs front raw behind rest u us is written span stand) =
     more (a ++ xs) front raw (behind ++ xs) (b ++ xs) t ts
-    (ap (λ (x : List ℕ). x ++ xs) is ∙ append_assoc (front ++ raw) behind xs)
-    written
-    (span ∙ sym (span-longer at (raw ++ behind) behind xs) ∙ ap (λ (x : List ℕ). span_before (longer at xs) x (behind ++ xs)) (append_assoc raw behind xs))
+    ((λ i. is i ++ xs) ∙ append_assoc (front ++ raw) behind xs) written
+    (span ∙ sym (span-longer at (raw ++ behind) behind xs) ∙ λ i. span_before (longer at xs) (append_assoc raw behind xs i) (behind ++ xs))
     (stand-longer at behind b xs ts stand)

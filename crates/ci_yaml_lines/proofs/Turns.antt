@@ -9,24 +9,23 @@ joined-push : (ms : Members) (v : Value) (ns : Members) → joined (push ms [] v
 joined-push no_members v ns = refl
 joined-push (member n w ms) v ns = ap (member n w) (joined-push ms v ns)
 
-pub joined-nil : (ms : Members) → joined ms no_members ≡ ms
+joined-nil : (ms : Members) → joined ms no_members ≡ ms
 joined-nil no_members = refl
 joined-nil (member n w ms) = ap (member n w) (joined-nil ms)
 
-abbrev list_of : Members → Option (List ℕ) → Option Code → LeastListed
+abbrev pub list_of : Members → Option (List ℕ) → Option Code → LeastListed
 list_of m r o = record { members = m; rest = r; code = o }
 
 step : (ms : Members) (code : Option Code) (v : Value) (cs : List Code) (l : Listed) → with_places (push ms [] v) (least_of code (least cs)) (least_listed l) ≡ with_places ms code (least_listed (with_place v cs l))
 step ms code v cs l =
-    ap (λ m. list_of m l.rest (least_of (least_of code (least cs)) (least l.codes))) (joined-push ms v l.members)
-    ∙ ap (list_of (joined ms (member [] v l.members)) l.rest) (sym (least_of_three code (least cs) (least l.codes)) ∙ ap (least_of code) (sym (least_append cs l.codes)))
+    λ i. list_of (joined-push ms v l.members i) l.rest ((sym (least_of_three code (least cs) (least l.codes)) ∙ λ j. least_of code (sym (least_append cs l.codes) j)) i)
 
 pub places-end : (ms : Members) (code : Option Code) (r : Option (List ℕ)) (o : Option Code) → with_places ms code (list_of no_members r o) ≡ list_of ms r (least_of code o)
-places-end ms code r o = ap (λ m. list_of m r (least_of code o)) (joined-nil ms)
+places-end ms code r o = λ i. list_of (joined-nil ms i) r (least_of code o)
 
 -- one more place
 pub place-turn : (m : ℕ) (rest : List ℕ) (ms : Members) (code : Option Code) (p : LeastPlace) → p ≡ least_place (place rest)
     → with_places (push ms [] p.value) (least_of code p.code) (least_listed (after_place p.end (λ r. places m r))) ≡ with_places ms code (least_listed (places (suc m) rest))
 place-turn m rest ms code p e =
-    ap (λ (q : LeastPlace). with_places (push ms [] q.value) (least_of code q.code) (least_listed (after_place q.end (λ r. places m r)))) e
+    (λ i. with_places (push ms [] (e i).value) (least_of code (e i).code) (least_listed (after_place (e i).end (λ r. places m r))))
     ∙ step ms code (place rest).value (place rest).codes (after_place (place rest).end (λ r. places m r))

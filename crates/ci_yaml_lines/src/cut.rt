@@ -74,6 +74,7 @@ pub fn tail(text: &str) -> &str
 }
 
 /// The texts before and behind an ASCII byte.
+#[tactic(auto, using(crate::proofs::Cuts::behind_ascii))]
 pub fn split_around(text: &str, i: usize) -> (&str, &str)
     requires within { i < length text.now }
     requires ascii { slice_index text.now i < 128 }
@@ -84,6 +85,7 @@ pub fn split_around(text: &str, i: usize) -> (&str, &str)
 }
 
 /// The text without the spaces and tabs at its end.
+#[tactic(auto, using(crate::proofs::Cuts::boundaries))]
 pub fn trim_end(text: &str) -> &str
     ensures { result.now ≡ trim_end text.now }
 {
@@ -91,6 +93,7 @@ pub fn trim_end(text: &str) -> &str
 }
 
 /// The text without the spaces and tabs that it begins with.
+#[tactic(auto, using(crate::proofs::Cuts::boundaries))]
 pub fn drop_blanks(text: &str) -> &str
     ensures { result.now ≡ drop_blanks text.now }
 {
@@ -105,6 +108,7 @@ pub fn is_all_blank(text: &str) -> bool
 }
 
 /// The text without the spaces that it begins with.
+#[tactic(auto, using(crate::proofs::Cuts::boundaries))]
 pub fn drop_spaces(text: &str) -> &str
     ensures { result.now ≡ drop (spaces text.now) text.now }
 {
@@ -112,6 +116,7 @@ pub fn drop_spaces(text: &str) -> &str
 }
 
 /// The text before a comment, where this byte comes before it.
+#[tactic(auto, using(crate::proofs::Cuts::boundaries))]
 pub fn before_comment(last: u8, text: &str) -> &str
     ensures { result.now ≡ before_comment last text.now }
 {

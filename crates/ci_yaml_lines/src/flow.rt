@@ -63,6 +63,7 @@ fn end_of(text: &str) -> End<'_>
 }
 
 /// The place that the text begins with, behind this byte.
+#[tactic(auto, using(crate::proofs::Cuts::boundaries))]
 fn cut_place(last: u8, text: &str) -> Cut<'_>
     ensures { cut_view result ≡ cut_place last text.now }
 {

@@ -31,6 +31,7 @@ struct Keyed<'a> {
 }
 
 /// The text before the colon that ends a plain key, and the text behind it.
+#[tactic(auto, using(crate::proofs::Cuts::boundaries))]
 fn split_colon(text: &str) -> Option<(&str, &str)>
     ensures { split_colon text.now ≡ option_map (λ p. record { raw = p.0.now; rest = p.1.now }) result }
 {

@@ -35,6 +35,7 @@ fn first_quote(bytes: &[u8]) -> Option<usize>
 }
 
 /// Where the first single quote stands.
+#[tactic(auto, using(crate::proofs::Quotes::single_marks))]
 fn quote_at(bytes: &[u8]) -> Option<usize>
     ensures place { IfSome result (λ i. (i < length bytes.now) × (slice_index bytes.now i ≡ 39)) }
     ensures value { single bytes.now ≡ from_place single bytes.now result }
@@ -130,6 +131,7 @@ fn first_quote_or_backslash(bytes: &[u8]) -> Option<usize>
 }
 
 /// Where the first double quote or backslash stands.
+#[tactic(auto, using(crate::proofs::Quotes::double_marks))]
 fn quote_or_backslash_at(bytes: &[u8]) -> Option<usize>
     ensures place { IfSome result (λ i. (i < length bytes.now) × ((slice_index bytes.now i ≡ 34) ⊎ (slice_index bytes.now i ≡ 92))) }
     ensures value { double bytes.now ≡ from_place double bytes.now result }

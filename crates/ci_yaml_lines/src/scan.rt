@@ -56,6 +56,7 @@ pub fn blanks(bytes: &[u8]) -> usize
 }
 
 /// The length without the spaces and tabs at the end.
+#[tactic(auto, using(crate::proofs::Cuts::trims))]
 pub fn trimmed_len(bytes: &[u8]) -> usize
     ensures { result ≡ trimmed_len bytes.now }
 {
@@ -110,6 +111,7 @@ fn stops_key(last: u8, byte: u8, more: &[u8]) -> bool
 }
 
 /// How many bytes come before the colon that ends a plain key, or before a comment.
+#[tactic(auto, using(crate::proofs::Scans::key_step, crate::proofs::Scans::key_end, crate::proofs::Scans::rest_length))]
 pub fn key_len(bytes: &[u8]) -> usize
     ensures { result ≡ key_len 0 bytes.now }
 {
@@ -148,6 +150,7 @@ fn is_tab_after(byte: u8, more: &[u8]) -> bool
 }
 
 /// Whether `-` or `:` stands directly before a tab.
+#[tactic(auto, using(crate::proofs::Scans::tab_step, crate::proofs::Scans::tab_end))]
 pub fn has_tab_after(bytes: &[u8]) -> bool
     ensures { result ≡ has_tab_after bytes.now }
 {
@@ -175,6 +178,7 @@ fn ends_key(byte: u8, more: &[u8]) -> bool
 }
 
 /// Whether `: ` stands in a plain scalar, or `:` at its end.
+#[tactic(auto, using(crate::proofs::Scans::colon_step, crate::proofs::Scans::colon_end))]
 pub fn has_colon(bytes: &[u8]) -> bool
     ensures { result ≡ has_colon bytes.now }
 {
@@ -195,6 +199,7 @@ fn is_inner(byte: u8, more: &[u8]) -> bool
 }
 
 /// Whether something stands in a plain scalar that no plain scalar of a flow list holds.
+#[tactic(auto, using(crate::proofs::Scans::inner_step, crate::proofs::Scans::inner_end))]
 pub fn has_inner(bytes: &[u8]) -> bool
     ensures { result ≡ has_inner bytes.now }
 {
@@ -270,6 +275,7 @@ fn is_byte_order_mark(byte: u8, more: &[u8]) -> bool
 }
 
 /// Whether U+FEFF stands in the line.
+#[tactic(auto, using(crate::proofs::Scans::mark_step, crate::proofs::Scans::mark_end))]
 pub fn has_byte_order_mark(bytes: &[u8]) -> bool
     ensures { result ≡ has_byte_order_mark bytes.now }
 {

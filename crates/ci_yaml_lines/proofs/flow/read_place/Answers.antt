@@ -1,10 +1,9 @@
 use Rattle.std.proofs.Common.{◌∷◌, [], Option, subst, false, IfSome, ◌≡◌, ◌∙◌, true, Some, None, sym, ap, option_map}
 use Rattle.ci_yaml_lines.specs.declared.quoted.Quoted.{Quoted}
-use Rattle.ci_yaml_lines.specs.Prelude.{Stand, texts_in, span_before, behind_end, Y6, Value, is_quote, quoted, drop_blanks, missing, quoted_view, LeastPlace, scalar_spans}
-use Rattle.ci_yaml_lines.specs.Prelude.{value_view}
+use Rattle.ci_yaml_lines.specs.Prelude.{Stand, texts_in, span_before, behind_end, Y6, is_quote, quoted, drop_blanks, missing, quoted_view, LeastPlace, scalar_spans, value_view}
 use Rattle.ci_yaml_lines.proofs.SpansFlow.{stand-behind-blanks, stand-null}
 use Rattle.ci_yaml_lines.proofs.Views.{view-Null}
-use Rattle.ci_yaml_lines.proofs.Parsed.{value_place, place-quoted, place-plain}
+use Rattle.ci_yaml_lines.proofs.Parsed.{place-quoted, place-plain}
 use Rattle.ci_yaml_lines.proofs.SpansOf.{exact-quoted-place, exact-no-place, unquoted}
 use Rattle.ci_yaml_lines.proofs.flow.read_place.Goals as goal
 
@@ -35,7 +34,7 @@ pub returns-in-None-clause-value : goal.returns-in-None-clause-value
 returns-in-None-clause-value c =
     let from = c.drop_blanks-from.result.now in
     let here : is_quote from ≡ true = ap is_quote (sym c.as_bytes.ensures.value) ∙ sym c.if-not-is_quote.ensures in
-    ap (λ (v : Value). value_place v (Some Y6) missing) view-Null
+    (λ i. record { value = view-Null i; code = Some Y6; end = missing })
     ∙ place-quoted c.args.text.now from None c.drop_blanks-from.ensures here (ap (option_map quoted_view) (sym c.in-None.is) ∙ c.in_ok-quoted.ensures.value)
 
 pub returns-then-not-is_quote-clause-exact : goal.returns-then-not-is_quote-clause-exact

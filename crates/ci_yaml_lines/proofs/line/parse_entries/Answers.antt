@@ -1,4 +1,4 @@
-use Rattle.std.proofs.Common.{◌≡◌, ◌∙◌, ap, sym, subst, map, length, rules, arith, true, false, List, [], ◌++◌, ◌+◌, ◌≤◌, None, ◌-◌, IfOk}
+use Rattle.std.proofs.Common.{◌≡◌, ◌∙◌, ap, sym, subst, map, length, rules, arith, true, false, List, [], ◌++◌, ◌+◌, ◌≤◌, None, ◌-◌, IfOk, refl}
 use Rattle.ci_yaml_lines.specs.Prelude.{MAX_FILE_BYTES, Dash, is_dash, keyed, entry_view, written_view, item_view, LeastParsed, parsed_view, ColumnsFit, given_view, Stand}
 use Rattle.ci_yaml_lines.specs.Prelude.{given_texts, entries_texts, GoOn, ItemStands, ItemHasSpans, spans_of, given_spans, keyed_spans, entries_spans, drop_blanks}
 use Rattle.ci_yaml_lines.proofs.Parsed.{stop-turn, value-turn, inner-turn, end-turn, entries-push, start-turn, dash-longer, added}
@@ -6,7 +6,7 @@ use Rattle.ci_yaml_lines.specs.declared.tree.Text.{Text}
 use Rattle.ci_yaml_lines.proofs.SpansStand.{stand-all}
 use Rattle.ci_yaml_lines.proofs.SpansGiven.{if-ok}
 use Rattle.ci_yaml_lines.proofs.SpansParsed.{no-entries, dash-item, dash-inner}
-use Rattle.ci_yaml_lines.proofs.SpansOf.{exact-first, exact-stop, exact-value, exact-inner, exact-dash, exact-last, exact-more}
+use Rattle.ci_yaml_lines.proofs.SpansOf.{exact-first, exact-stop, exact-value, exact-inner, exact-dash, at-last, exact-more}
 use Rattle.ci_yaml_lines.proofs.line.parse_entries.Goals as goal
 
 pub dashes-init : goal.dashes-init
@@ -86,4 +86,4 @@ returns-in-Value-clause-exact c =
     (λ s e. exact-more ts us (entries_texts s.entries.items) own there e ∙ c.dashes.invariant.4) c.entry_of.ensures.spans
 
 pub returns-clause-exact : goal.returns-clause-exact
-returns-clause-exact c = exact-last c.args.source c.args.n c.dashes.i c.dashes.rest.now (spans_of (entries_texts c.dashes.entries.items)) (entries_spans c.args.source c.args.n c.args.text.now) (omega arith) c.dashes.invariant.4
+returns-clause-exact c = at-last (λ k. entries_spans c.args.source k c.dashes.rest.now) c.args.n c.dashes.i _ _ refl (omega arith) c.dashes.invariant.4

@@ -1,5 +1,4 @@
-use Rattle.std.proofs.Common.{[]}
-use Rattle.std.proofs.Common.{◌≡◌, ◌∙◌, ℕ, ◌+◌, true, false, drop, refl, sym, ap}
+use Rattle.std.proofs.Common.{[], ◌≡◌, ◌∙◌, ℕ, ◌+◌, true, false, drop, refl, sym, ap}
 use Rattle.ci_yaml_lines.specs.Prelude.{spaces, only_comment, head_is, least_item}
 use Rattle.ci_yaml_lines.proofs.SpansStand.{stand-none}
 use Rattle.ci_yaml_lines.proofs.SpansGiven.{stand_drop, stand-nothing}

@@ -2,7 +2,7 @@ use Rattle.std.proofs.Common.{◌≡◌, ◌∷◌, [], ◌++◌}
 use Rattle.ci_yaml_lines.specs.Prelude.{given_texts, entries_texts, GoOn, spans_of, given_spans, written, drop_blanks}
 use Rattle.ci_yaml_lines.proofs.SpansGiven.{if-ok}
 use Rattle.ci_yaml_lines.proofs.SpansParsed.{key-goes}
-use Rattle.ci_yaml_lines.proofs.SpansOf.{exact-key}
+use Rattle.ci_yaml_lines.proofs.SpansOf.{exact-more}
 use Rattle.ci_yaml_lines.proofs.line.with_key.Goals as goal
 
 pub returns-clause-spans : goal.returns-clause-spans
@@ -21,4 +21,4 @@ returns-clause-exact c =
     let name = c.args.key.name in
     let given = given_spans c.args.source (written 58 c.args.key.rest.now).given (drop_blanks c.args.key.rest.now) in
     if-ok c.entry_of.result (λ s. entries_texts s.entries.items ≡ ts ++ ((name ∷ []) ++ us)) (λ s. spans_of (entries_texts s.entries.items) ≡ spans_of ts ++ (name.span ∷ given))
-    (λ s e. exact-key ts us (entries_texts s.entries.items) name given c.in_ok-value.ensures.exact e) c.entry_of.ensures.spans
+    (λ s e. exact-more ts (name ∷ us) (entries_texts s.entries.items) (name.span ∷ given) (λ i. name.span ∷ c.in_ok-value.ensures.exact i) e) c.entry_of.ensures.spans
