@@ -239,9 +239,6 @@ exact-inner at n i k w r t lt e r-is t-is =
 no-spans : (es : List Entry) → es ≡ [] → spans_of (entries_texts es) ≡ []
 no-spans es e = λ i. spans_of (entries_texts (e i))
 
-pub exact-first : (at : SourceLine) (n : ℕ) (bs : List ℕ) (es : List Entry) → es ≡ [] → spans_of (entries_texts es) ++ entries_spans at (n - 0) bs ≡ entries_spans at n bs
-exact-first at n bs es e = at-first (λ k. entries_spans at k bs) n (spans_of (entries_texts es)) (no-spans es e)
-
 -- a dash more, which has no text
 pub exact-dash : (es fs : List Entry) (c : ℕ) (more : List Span) → fs ≡ es ++ (record { column = c; head = Dash; given = None }) ∷ [] → spans_of (entries_texts fs) ++ more ≡ spans_of (entries_texts es) ++ more
 exact-dash es fs c more e =

@@ -6,24 +6,55 @@ use Rattle.ci_yaml_lines.specs.declared.tree.Text.{Text}
 use Rattle.ci_yaml_lines.proofs.SpansStand.{stand-all}
 use Rattle.ci_yaml_lines.proofs.SpansGiven.{if-ok}
 use Rattle.ci_yaml_lines.proofs.SpansParsed.{no-entries, dash-item, dash-inner}
-use Rattle.ci_yaml_lines.proofs.SpansOf.{exact-first, exact-stop, exact-value, exact-inner, exact-dash, at-last, exact-more}
+use Rattle.ci_yaml_lines.proofs.SpansOf.{at-first, exact-stop, exact-value, exact-inner, exact-dash, at-last, exact-more}
 use Rattle.ci_yaml_lines.proofs.line.parse_entries.Goals as goal
 
 pub dashes-init : goal.dashes-init
-dashes-init c = (search rules, c.requires.fits, start-turn c.new-entries.result.items c.args.n c.args.column c.args.text.now c.new-entries.ensures.items, no-entries c.args.source c.args.text.now c.new-entries.result.items c.new-entries.ensures.items, exact-first c.args.source c.args.n c.args.text.now c.new-entries.result.items c.new-entries.ensures.items)
+dashes-init c = (
+  search rules,
+  c.requires.fits,
+  start-turn c.new-entries.result.items c.args.n c.args.column c.args.text.now c.new-entries.ensures.items,
+  no-entries c.args.source c.args.text.now c.new-entries.result.items c.new-entries.ensures.items,
+  at-first (λ k. entries_spans c.args.source k c.args.text.now) c.args.n (spans_of (entries_texts c.new-entries.result.items)) (λ i. spans_of (entries_texts (c.new-entries.ensures.items i))),
+)
 
-pub returns-then-not-is_dash-clause-value : goal.returns-then-not-is_dash-clause-value
-returns-then-not-is_dash-clause-value c =
-    let no : is_dash c.dashes.rest.now ≡ false = ap is_dash (sym c.as_bytes.ensures.value) ∙ sym c.if-not-is_dash.ensures in
-    subst (λ (x : LeastParsed). IfOk c.keyed_or_bare.result (λ s. parsed_view s ≡ x))
-    (stop-turn (map entry_view c.dashes.entries.items) c.args.n c.dashes.i c.dashes.column c.dashes.rest.now (omega arith) no ∙ c.dashes.invariant.2) c.keyed_or_bare.ensures.value
+pub returns-then-not-is_dash : goal.returns-then-not-is_dash
+returns-then-not-is_dash c =
+    let es = c.dashes.entries.items in
+    let rest = c.dashes.rest.now in
+    let no : is_dash rest ≡ false = ap is_dash (sym c.as_bytes.ensures.value) ∙ sym c.if-not-is_dash.ensures in
+    record {
+      value = subst (λ (x : LeastParsed). IfOk c.keyed_or_bare.result (λ s. parsed_view s ≡ x))
+          (stop-turn (map entry_view es) c.args.n c.dashes.i c.dashes.column rest (omega arith) no ∙ c.dashes.invariant.2) c.keyed_or_bare.ensures.value;
+      spans = if-ok c.keyed_or_bare.result (λ s. GoOn c.args.source (entries_texts es) rest (entries_texts s.entries.items)) (λ s. Stand c.args.source c.args.text.now (entries_texts s.entries.items) [])
+          (λ s goes. goes c.args.text.now c.dashes.invariant.3) c.keyed_or_bare.ensures.spans;
+      exact = if-ok c.keyed_or_bare.result (λ s. spans_of (entries_texts s.entries.items) ≡ spans_of (entries_texts es) ++ keyed_spans c.args.source (keyed rest) rest)
+          (λ s. spans_of (entries_texts s.entries.items) ≡ entries_spans c.args.source c.args.n c.args.text.now)
+          (λ s e. e ∙ ap (λ x. spans_of (entries_texts es) ++ x) (exact-stop c.args.source c.args.n c.dashes.i rest (omega arith) no) ∙ c.dashes.invariant.4) c.keyed_or_bare.ensures.exact;
+    }
 
-pub returns-in-Value-clause-value : goal.returns-in-Value-clause-value
-returns-in-Value-clause-value c =
-    let yes : is_dash c.dashes.rest.now ≡ true = ap is_dash (sym c.as_bytes.ensures.value) ∙ sym c.if-not-is_dash.ensures in
-    subst (λ (x : LeastParsed). IfOk c.entry_of.result (λ s. parsed_view s ≡ x))
-    (value-turn (map entry_view c.dashes.entries.items) c.args.n c.dashes.i c.dashes.column c.dashes.rest.now c.tail.result.now (written_view c.in-Value.value) (omega arith) yes c.tail.ensures
-    (sym (ap item_view c.in-Value.is) ∙ c.in_ok-columns.ensures.value) ∙ c.dashes.invariant.2) c.entry_of.ensures.value
+pub returns-in-Value : goal.returns-in-Value
+returns-in-Value c =
+    let es = c.dashes.entries.items in
+    let ts : List Text = entries_texts es in
+    let us : List Text = given_texts c.in-Value.value.given in
+    let rest = c.dashes.rest.now in
+    let tail = c.tail.result.now in
+    let own = entries_spans c.args.source (c.args.n - c.dashes.i) rest in
+    let yes : is_dash rest ≡ true = ap is_dash (sym c.as_bytes.ensures.value) ∙ sym c.if-not-is_dash.ensures in
+    let is = sym (ap item_view c.in-Value.is) ∙ c.in_ok-columns.ensures.value in
+    let stand : Stand c.args.source c.args.text.now (ts ++ ([] ++ us)) [] =
+    dash-item c.args.source c.args.text.now rest tail ts c.in-Value.value c.in_ok-columns.field-0 c.dashes.invariant.3 c.tail.ensures c.in_ok-columns.ensures.spans c.in-Value.is in
+    let given : spans_of us ≡ given_spans c.args.source (given_view c.in-Value.value.given) (drop_blanks tail) = subst (ItemHasSpans c.args.source tail) c.in-Value.is c.in_ok-columns.ensures.exact in
+    let there : spans_of us ≡ own = given ∙ exact-value c.args.source c.args.n c.dashes.i rest tail (written_view c.in-Value.value) (omega arith) yes c.tail.ensures is in
+    record {
+      value = subst (λ (x : LeastParsed). IfOk c.entry_of.result (λ s. parsed_view s ≡ x))
+          (value-turn (map entry_view es) c.args.n c.dashes.i c.dashes.column rest tail (written_view c.in-Value.value) (omega arith) yes c.tail.ensures is ∙ c.dashes.invariant.2) c.entry_of.ensures.value;
+      spans = if-ok c.entry_of.result (λ s. entries_texts s.entries.items ≡ ts ++ ([] ++ us)) (λ s. Stand c.args.source c.args.text.now (entries_texts s.entries.items) [])
+          (λ s e. subst (λ (xs : List Text). Stand c.args.source c.args.text.now xs []) (sym e) stand) c.entry_of.ensures.spans;
+      exact = if-ok c.entry_of.result (λ s. entries_texts s.entries.items ≡ ts ++ us) (λ s. spans_of (entries_texts s.entries.items) ≡ entries_spans c.args.source c.args.n c.args.text.now)
+          (λ s e. exact-more ts us (entries_texts s.entries.items) own there e ∙ c.dashes.invariant.4) c.entry_of.ensures.spans;
+    }
 
 pub dashes-preserved : goal.dashes-preserved
 dashes-preserved c =
@@ -45,45 +76,9 @@ dashes-preserved c =
           ∙ c.dashes.invariant.4,
     )
 
-pub returns-clause-value : goal.returns-clause-value
-returns-clause-value c = end-turn (map entry_view c.dashes.entries.items) c.args.n c.dashes.i c.dashes.column c.dashes.rest.now (omega arith) ∙ c.dashes.invariant.2
-
-pub returns-then-not-is_dash-clause-spans : goal.returns-then-not-is_dash-clause-spans
-returns-then-not-is_dash-clause-spans c =
-    if-ok c.keyed_or_bare.result (λ s. GoOn c.args.source (entries_texts c.dashes.entries.items) c.dashes.rest.now (entries_texts s.entries.items)) (λ s. Stand c.args.source c.args.text.now (entries_texts s.entries.items) [])
-    (λ s goes. goes c.args.text.now c.dashes.invariant.3) c.keyed_or_bare.ensures.spans
-
-pub returns-in-Value-clause-spans : goal.returns-in-Value-clause-spans
-returns-in-Value-clause-spans c =
-    let ts : List Text = entries_texts c.dashes.entries.items ++ ([] ++ given_texts c.in-Value.value.given) in
-    let stand : Stand c.args.source c.args.text.now ts [] =
-    dash-item c.args.source c.args.text.now c.dashes.rest.now c.tail.result.now (entries_texts c.dashes.entries.items) c.in-Value.value c.in_ok-columns.field-0 c.dashes.invariant.3 c.tail.ensures c.in_ok-columns.ensures.spans c.in-Value.is in
-    if-ok c.entry_of.result (λ s. entries_texts s.entries.items ≡ ts) (λ s. Stand c.args.source c.args.text.now (entries_texts s.entries.items) [])
-    (λ s e. subst (λ (us : List Text). Stand c.args.source c.args.text.now us []) (sym e) stand) c.entry_of.ensures.spans
-
-pub returns-clause-spans : goal.returns-clause-spans
-returns-clause-spans c = stand-all c.args.source c.args.text.now c.dashes.rest.now (entries_texts c.dashes.entries.items) c.dashes.invariant.3
-
-pub returns-then-not-is_dash-clause-exact : goal.returns-then-not-is_dash-clause-exact
-returns-then-not-is_dash-clause-exact c =
-    let ts = spans_of (entries_texts c.dashes.entries.items) in
-    let rest = c.dashes.rest.now in
-    let no : is_dash rest ≡ false = ap is_dash (sym c.as_bytes.ensures.value) ∙ sym c.if-not-is_dash.ensures in
-    if-ok c.keyed_or_bare.result (λ s. spans_of (entries_texts s.entries.items) ≡ ts ++ keyed_spans c.args.source (keyed rest) rest) (λ s. spans_of (entries_texts s.entries.items) ≡ entries_spans c.args.source c.args.n c.args.text.now)
-    (λ s e. e ∙ ap (λ x. ts ++ x) (exact-stop c.args.source c.args.n c.dashes.i rest (omega arith) no) ∙ c.dashes.invariant.4) c.keyed_or_bare.ensures.exact
-
-pub returns-in-Value-clause-exact : goal.returns-in-Value-clause-exact
-returns-in-Value-clause-exact c =
-    let ts : List Text = entries_texts c.dashes.entries.items in
-    let us : List Text = given_texts c.in-Value.value.given in
-    let tail = c.tail.result.now in
-    let own = entries_spans c.args.source (c.args.n - c.dashes.i) c.dashes.rest.now in
-    let yes : is_dash c.dashes.rest.now ≡ true = ap is_dash (sym c.as_bytes.ensures.value) ∙ sym c.if-not-is_dash.ensures in
-    let given : spans_of us ≡ given_spans c.args.source (given_view c.in-Value.value.given) (drop_blanks tail) = subst (ItemHasSpans c.args.source tail) c.in-Value.is c.in_ok-columns.ensures.exact in
-    let there : spans_of us ≡ own =
-    given ∙ exact-value c.args.source c.args.n c.dashes.i c.dashes.rest.now tail (written_view c.in-Value.value) (omega arith) yes c.tail.ensures (sym (ap item_view c.in-Value.is) ∙ c.in_ok-columns.ensures.value) in
-    if-ok c.entry_of.result (λ s. entries_texts s.entries.items ≡ ts ++ us) (λ s. spans_of (entries_texts s.entries.items) ≡ entries_spans c.args.source c.args.n c.args.text.now)
-    (λ s e. exact-more ts us (entries_texts s.entries.items) own there e ∙ c.dashes.invariant.4) c.entry_of.ensures.spans
-
-pub returns-clause-exact : goal.returns-clause-exact
-returns-clause-exact c = at-last (λ k. entries_spans c.args.source k c.dashes.rest.now) c.args.n c.dashes.i _ _ refl (omega arith) c.dashes.invariant.4
+pub returns : goal.returns
+returns c = record {
+  value = end-turn (map entry_view c.dashes.entries.items) c.args.n c.dashes.i c.dashes.column c.dashes.rest.now (omega arith) ∙ c.dashes.invariant.2;
+  spans = stand-all c.args.source c.args.text.now c.dashes.rest.now (entries_texts c.dashes.entries.items) c.dashes.invariant.3;
+  exact = at-last (λ k. entries_spans c.args.source k c.dashes.rest.now) c.args.n c.dashes.i _ _ refl (omega arith) c.dashes.invariant.4;
+}

@@ -1,6 +1,6 @@
-use Rattle.std.proofs.Common.{◌≡◌, ◌∙◌, ◌+◌, ap, sym, arith, length, false, drop, ℕ, List}
+use Rattle.std.proofs.Common.{◌≡◌, ◌∙◌, ◌+◌, ap, sym, arith, length, drop}
 use Rattle.std.proofs.lemmas.List.Sums.{prefix_len-le-length}
-use Rattle.ci_yaml_lines.specs.Prelude.{Y9, trim_end, when, least, spaces, is_space, is_skipped, parse_content, parsed_view, least_parsed, entries_texts, SourceLine}
+use Rattle.ci_yaml_lines.specs.Prelude.{Y9, trim_end, when, least, spaces, is_space, parse_content, parsed_view, least_parsed, entries_texts, SourceLine}
 use Rattle.ci_yaml_lines.proofs.Parsed.{line-fits, line-parsed}
 use Rattle.ci_yaml_lines.proofs.SpansParsed.{no-entries, same-entries, line-stands}
 use Rattle.ci_yaml_lines.proofs.SpansStand.{stand-all}
@@ -19,32 +19,27 @@ parse_content-requires c =
     let l : length c.trim_end-text.result.now ≡ length (trim_end (drop (spaces c.args.line.now) c.args.line.now)) = ap length t in
     record { fits = omega (arith, line-fits c.args.line.now c.requires.fits) }
 
-pub returns-clause-value : goal.returns-clause-value
-returns-clause-value c =
-    let away : is_skipped c.args.line.now ≡ false = sym c.if-is_skipped.ensures in
-    let column : c.spaces-column.result ≡ spaces c.args.line.now = c.spaces-column.ensures ∙ ap spaces c.as_bytes.ensures.value in
-    let t : c.trim_end-text.result.now ≡ trim_end (drop (spaces c.args.line.now) c.args.line.now) = c.trim_end-text.ensures ∙ ap trim_end c.drop_spaces.ensures in
-    c.with_code.ensures.value ∙ line-parsed c.args.line.now c.when-form.result (parsed_view c.in_ok-parsed.parsed) away (c.when-form.ensures ∙ ap (λ b. least (when b Y9)) c.has_excluded.ensures)
-    (c.in_ok-parsed.ensures.value ∙ ap (λ (n : ℕ). least_parsed (parse_content n c.trim_end-text.result.now)) column ∙ ap (λ (x : List ℕ). least_parsed (parse_content (spaces c.args.line.now) x)) t)
-
-pub returns-clause-spans : goal.returns-clause-spans
-returns-clause-spans c =
-    let column : c.spaces-column.result ≡ spaces c.args.line.now = c.spaces-column.ensures ∙ ap spaces c.as_bytes.ensures.value in
-    let t : c.trim_end-text.result.now ≡ trim_end (drop (spaces c.args.line.now) c.args.line.now) = c.trim_end-text.ensures ∙ ap trim_end c.drop_spaces.ensures in
-    line-stands c.args.number c.spaces-column.result c.args.line.now c.trim_end-text.result.now (entries_texts c.with_code.result.entries.items) column t
-    (same-entries (record { line = c.args.number; end = c.spaces-column.result + length c.trim_end-text.result.now }) c.trim_end-text.result.now c.with_code.result.entries.items c.in_ok-parsed.parsed.entries.items
-    (ap (λ v. v.items) c.with_code.ensures.entries) c.in_ok-parsed.ensures.spans)
+pub returns : goal.returns
+returns c =
+    let l = c.args.line.now in
+    let text = c.trim_end-text.result.now in
+    let all = c.with_code.result.entries.items in
+    let own = c.in_ok-parsed.parsed.entries.items in
+    let same : all ≡ own = ap (λ v. v.items) c.with_code.ensures.entries in
+    let column : c.spaces-column.result ≡ spaces l = c.spaces-column.ensures ∙ ap spaces c.as_bytes.ensures.value in
+    let t : text ≡ trim_end (drop (spaces l) l) = c.trim_end-text.ensures ∙ ap trim_end c.drop_spaces.ensures in
+    record {
+      value = c.with_code.ensures.value ∙ line-parsed l c.when-form.result (parsed_view c.in_ok-parsed.parsed) (sym c.if-is_skipped.ensures) (c.when-form.ensures ∙ ap (λ b. least (when b Y9)) c.has_excluded.ensures)
+          (c.in_ok-parsed.ensures.value ∙ λ i. least_parsed (parse_content (column i) (t i)));
+      spans = line-stands c.args.number c.spaces-column.result l text (entries_texts all) column t
+          (same-entries (record { line = c.args.number; end = c.spaces-column.result + length text }) text all own same c.in_ok-parsed.ensures.spans);
+      exact = exact-line c.args.number c.spaces-column.result l text all own same column t c.if-is_skipped.ensures c.in_ok-parsed.ensures.exact;
+    }
 
 pub returns-then-is_skipped-clause-spans : goal.returns-then-is_skipped-clause-spans
 returns-then-is_skipped-clause-spans c =
     let at : SourceLine = record { line = c.args.number; end = length c.args.line.now } in
     stand-all at c.args.line.now c.args.line.now (entries_texts c.new.result.items) (no-entries at c.args.line.now c.new.result.items c.new.ensures.items)
-
-pub returns-clause-exact : goal.returns-clause-exact
-returns-clause-exact c =
-    let column : c.spaces-column.result ≡ spaces c.args.line.now = c.spaces-column.ensures ∙ ap spaces c.as_bytes.ensures.value in
-    let t : c.trim_end-text.result.now ≡ trim_end (drop (spaces c.args.line.now) c.args.line.now) = c.trim_end-text.ensures ∙ ap trim_end c.drop_spaces.ensures in
-    exact-line c.args.number c.spaces-column.result c.args.line.now c.trim_end-text.result.now c.with_code.result.entries.items c.in_ok-parsed.parsed.entries.items (ap (λ v. v.items) c.with_code.ensures.entries) column t c.if-is_skipped.ensures c.in_ok-parsed.ensures.exact
 
 pub returns-then-is_skipped-clause-exact : goal.returns-then-is_skipped-clause-exact
 returns-then-is_skipped-clause-exact c = exact-skipped c.args.number c.args.line.now c.new.result.items c.new.ensures.items c.if-is_skipped.ensures

@@ -7,85 +7,65 @@ use Rattle.ci_yaml_lines.proofs.SpansOf.{unquoted, header-given, exact-quoted, e
 use Rattle.ci_yaml_lines.specs.declared.quoted.Quoted.{Quoted}
 use Rattle.ci_yaml_lines.proofs.written.read_value.Goals as goal
 
-pub returns-in_ok-list-clause-value : goal.returns-in_ok-list-clause-value
-returns-in_ok-list-clause-value c =
+pub returns-in_ok-list : goal.returns-in_ok-list
+returns-in_ok-list c =
     let w = c.args.text.now in
     let away : is_quote w ≡ false = ap is_quote (sym c.as_bytes.ensures.value) ∙ sym c.if-is_quote.ensures in
     let here : head_is 91 w ≡ true = ap (head_is 91) (sym c.as_bytes-else-is_quote.ensures.value) ∙ sym c.if-head_is.ensures in
-    c.written_list.ensures.value ∙ ap written_of_list c.in_ok-list.ensures.value ∙ list-written (listed w) ∙ ap least_written (at-list w away here)
+    let value = c.written_list.ensures.value ∙ ap written_of_list c.in_ok-list.ensures.value ∙ list-written (listed w) ∙ ap least_written (at-list w away here) in
+    record {
+      value = value;
+      spans = stand-same c.args.source w (behind_list c.in_ok-list.list.rest) (given_texts c.written_list.result.given) (items_texts c.in_ok-list.list.items.items) c.written_list.ensures.spans c.in_ok-list.ensures.spans;
+      exact = exact-given c.args.source w (spans_of (given_texts c.written_list.result.given)) (written_view c.written_list.result) (Some (node sequence (listed_view c.in_ok-list.list).members))
+          (ap (λ (x : LeastWritten). x.given) c.written_list.ensures.value) value (ap spans_of c.written_list.ensures.spans ∙ c.in_ok-list.ensures.exact);
+    }
 
-pub returns-in-Some-clause-spans : goal.returns-in-Some-clause-spans
-returns-in-Some-clause-spans c =
-    stand-quoted c.args.source c.args.text.now c.in_ok-quoted.field-0 c.in-Some.quoted (given_texts c.closed.result.given) c.in-Some.is c.in_ok-quoted.ensures.spans c.closed.ensures.spans
-
-pub returns-in_ok-list-clause-spans : goal.returns-in_ok-list-clause-spans
-returns-in_ok-list-clause-spans c =
-    stand-same c.args.source c.args.text.now (behind_list c.in_ok-list.list.rest) (given_texts c.written_list.result.given) (items_texts c.in_ok-list.list.items.items) c.written_list.ensures.spans c.in_ok-list.ensures.spans
-
-pub returns-then-head_is-2-clause-spans : goal.returns-then-head_is-2-clause-spans
-returns-then-head_is-2-clause-spans c = c.header_of.ensures.spans
-
-pub returns-in-Some-clause-value : goal.returns-in-Some-clause-value
-returns-in-Some-clause-value c =
-    let here : is_quote c.args.text.now ≡ true = ap is_quote (sym c.as_bytes.ensures.value) ∙ sym c.if-is_quote.ensures in
-    c.closed.ensures.value ∙ ap least_written (at-quoted c.args.text.now (Some (quoted_view c.in-Some.quoted)) here (ap (option_map quoted_view) (sym c.in-Some.is) ∙ c.in_ok-quoted.ensures.value))
-
-pub returns-in-None-clause-value : goal.returns-in-None-clause-value
-returns-in-None-clause-value c =
-    let here : is_quote c.args.text.now ≡ true = ap is_quote (sym c.as_bytes.ensures.value) ∙ sym c.if-is_quote.ensures in
-    c.unclosed.ensures.value ∙ ap least_written (at-quoted c.args.text.now None here (ap (option_map quoted_view) (sym c.in-None.is) ∙ c.in_ok-quoted.ensures.value))
-
-pub returns-then-head_is-2-clause-value : goal.returns-then-head_is-2-clause-value
-returns-then-head_is-2-clause-value c =
-    c.header_of.ensures.value ∙ ap (λ (x : List ℕ). least_written (header_of x)) c.tail.ensures
-    ∙ ap least_written (at-bar c.args.text.now _ _ _ true c.as_bytes.ensures.value c.if-is_quote.ensures c.as_bytes-else-is_quote.ensures.value c.if-head_is.ensures c.as_bytes-else-head_is.ensures.value c.if-head_is-2.ensures)
-
-pub returns-else-head_is-2-clause-value : goal.returns-else-head_is-2-clause-value
-returns-else-head_is-2-clause-value c =
-    c.written_plain.ensures.value
-    ∙ ap least_written (at-bar c.args.text.now _ _ _ false c.as_bytes.ensures.value c.if-is_quote.ensures c.as_bytes-else-is_quote.ensures.value c.if-head_is.ensures c.as_bytes-else-head_is.ensures.value c.if-head_is-2.ensures)
-
-pub returns-in-Some-clause-exact : goal.returns-in-Some-clause-exact
-returns-in-Some-clause-exact c =
+pub returns-in-Some : goal.returns-in-Some
+returns-in-Some c =
     let w = c.args.text.now in
     let q = c.in-Some.quoted in
     let here : is_quote w ≡ true = ap is_quote (sym c.as_bytes.ensures.value) ∙ sym c.if-is_quote.ensures in
     let is : Some (quoted_view q) ≡ quoted w = ap (option_map quoted_view) (sym c.in-Some.is) ∙ c.in_ok-quoted.ensures.value in
-    exact-quoted c.args.source w q (given_texts c.closed.result.given) c.closed.ensures.spans is
-    (subst (λ (o : Option Quoted). IfSome o (λ p. p.text.span ≡ span_before c.args.source w p.rest.now)) c.in-Some.is c.in_ok-quoted.ensures.span)
-    (ap least_written (at-quoted w (Some (quoted_view q)) here is))
+    let there = ap least_written (at-quoted w (Some (quoted_view q)) here is) in
+    record {
+      value = c.closed.ensures.value ∙ there;
+      spans = stand-quoted c.args.source w c.in_ok-quoted.field-0 q (given_texts c.closed.result.given) c.in-Some.is c.in_ok-quoted.ensures.spans c.closed.ensures.spans;
+      exact = exact-quoted c.args.source w q (given_texts c.closed.result.given) c.closed.ensures.spans is
+          (subst (λ (o : Option Quoted). IfSome o (λ p. p.text.span ≡ span_before c.args.source w p.rest.now)) c.in-Some.is c.in_ok-quoted.ensures.span) there;
+    }
 
-pub returns-in-None-clause-exact : goal.returns-in-None-clause-exact
-returns-in-None-clause-exact c =
+pub returns-in-None : goal.returns-in-None
+returns-in-None c =
     let w = c.args.text.now in
     let here : is_quote w ≡ true = ap is_quote (sym c.as_bytes.ensures.value) ∙ sym c.if-is_quote.ensures in
     let none : None ≡ quoted w = ap (option_map quoted_view) (sym c.in-None.is) ∙ c.in_ok-quoted.ensures.value in
-    exact-nothing c.args.source w (spans_of (given_texts c.unclosed.result.given)) (written_view c.unclosed.result) (sym none) (ap (λ (x : LeastWritten). x.given) c.unclosed.ensures.value)
-    (c.unclosed.ensures.value ∙ ap least_written (at-quoted w None here none)) c.unclosed.ensures.exact
+    let value = c.unclosed.ensures.value ∙ ap least_written (at-quoted w None here none) in
+    record {
+      value = value;
+      spans = c.unclosed.ensures.spans;
+      exact = exact-nothing c.args.source w (spans_of (given_texts c.unclosed.result.given)) (written_view c.unclosed.result) (sym none) (ap (λ (x : LeastWritten). x.given) c.unclosed.ensures.value) value c.unclosed.ensures.exact;
+    }
 
-pub returns-in_ok-list-clause-exact : goal.returns-in_ok-list-clause-exact
-returns-in_ok-list-clause-exact c =
+pub returns-then-head_is-2 : goal.returns-then-head_is-2
+returns-then-head_is-2 c =
     let w = c.args.text.now in
     let away : is_quote w ≡ false = ap is_quote (sym c.as_bytes.ensures.value) ∙ sym c.if-is_quote.ensures in
-    let here : head_is 91 w ≡ true = ap (head_is 91) (sym c.as_bytes-else-is_quote.ensures.value) ∙ sym c.if-head_is.ensures in
-    exact-given c.args.source w (spans_of (given_texts c.written_list.result.given)) (written_view c.written_list.result) (Some (node sequence (listed_view c.in_ok-list.list).members)) (ap (λ (x : LeastWritten). x.given) c.written_list.ensures.value)
-    (c.written_list.ensures.value ∙ ap written_of_list c.in_ok-list.ensures.value ∙ list-written (listed w) ∙ ap least_written (at-list w away here))
-    (ap spans_of c.written_list.ensures.spans ∙ c.in_ok-list.ensures.exact)
+    let value = c.header_of.ensures.value ∙ ap (λ (x : List ℕ). least_written (header_of x)) c.tail.ensures
+    ∙ ap least_written (at-bar w _ _ _ true c.as_bytes.ensures.value c.if-is_quote.ensures c.as_bytes-else-is_quote.ensures.value c.if-head_is.ensures c.as_bytes-else-head_is.ensures.value c.if-head_is-2.ensures) in
+    record {
+      value = value;
+      spans = c.header_of.ensures.spans;
+      exact = exact-nothing c.args.source w (spans_of (given_texts c.header_of.result.given)) (written_view c.header_of.result) (unquoted w away) (header-given c.tail.result.now c.header_of.result c.header_of.ensures.value) value c.header_of.ensures.exact;
+    }
 
-pub returns-then-head_is-2-clause-exact : goal.returns-then-head_is-2-clause-exact
-returns-then-head_is-2-clause-exact c =
+pub returns-else-head_is-2 : goal.returns-else-head_is-2
+returns-else-head_is-2 c =
     let w = c.args.text.now in
     let away : is_quote w ≡ false = ap is_quote (sym c.as_bytes.ensures.value) ∙ sym c.if-is_quote.ensures in
-    exact-nothing c.args.source w (spans_of (given_texts c.header_of.result.given)) (written_view c.header_of.result) (unquoted w away) (header-given c.tail.result.now c.header_of.result c.header_of.ensures.value)
-    (c.header_of.ensures.value ∙ ap (λ (x : List ℕ). least_written (header_of x)) c.tail.ensures
-    ∙ ap least_written (at-bar w _ _ _ true c.as_bytes.ensures.value c.if-is_quote.ensures c.as_bytes-else-is_quote.ensures.value c.if-head_is.ensures c.as_bytes-else-head_is.ensures.value c.if-head_is-2.ensures))
-    c.header_of.ensures.exact
-
-pub returns-else-head_is-2-clause-exact : goal.returns-else-head_is-2-clause-exact
-returns-else-head_is-2-clause-exact c =
-    let w = c.args.text.now in
-    let away : is_quote w ≡ false = ap is_quote (sym c.as_bytes.ensures.value) ∙ sym c.if-is_quote.ensures in
-    exact-given c.args.source w (spans_of (given_texts c.written_plain.result.given)) (written_view c.written_plain.result) (given_view c.written_plain.result.given) refl
-    (c.written_plain.ensures.value
-    ∙ ap least_written (at-bar w _ _ _ false c.as_bytes.ensures.value c.if-is_quote.ensures c.as_bytes-else-is_quote.ensures.value c.if-head_is.ensures c.as_bytes-else-head_is.ensures.value c.if-head_is-2.ensures))
-    (c.written_plain.ensures.exact (unquoted w away))
+    let value = c.written_plain.ensures.value
+    ∙ ap least_written (at-bar w _ _ _ false c.as_bytes.ensures.value c.if-is_quote.ensures c.as_bytes-else-is_quote.ensures.value c.if-head_is.ensures c.as_bytes-else-head_is.ensures.value c.if-head_is-2.ensures) in
+    record {
+      value = value;
+      spans = c.written_plain.ensures.spans;
+      exact = exact-given c.args.source w (spans_of (given_texts c.written_plain.result.given)) (written_view c.written_plain.result) (given_view c.written_plain.result.given) refl value (c.written_plain.ensures.exact (unquoted w away));
+    }
