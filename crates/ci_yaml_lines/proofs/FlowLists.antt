@@ -253,9 +253,10 @@ pub record PlaceIs (bs : List ℕ) (v : Value) (e : End) : Type 0 where
   pub is : IsPlace raw v
   pub ends : Ends e behind
 
-quoted-place_is : (bs : List ℕ) (q : Quoted) → IsQuoted (drop_blanks bs) q → (behind_quoted q (cut_place 39 q.rest)).codes ≡ [] → (behind_quoted q (cut_place 39 q.rest)).end ≢ missing
-    → PlaceIs bs (text q.text) (behind_quoted q (cut_place 39 q.rest)).end
-quoted-place_is bs q is codes some =
+quoted-place_is : (bs : List ℕ) (o : Option Quoted) → quoted (drop_blanks bs) ≡ o → (quoted_place o).codes ≡ [] → (quoted_place o).end ≢ missing → PlaceIs bs (quoted_place o).value (quoted_place o).end
+quoted-place_is bs None read codes some = absurd (some refl)
+quoted-place_is bs (Some q) read codes some =
+    let is : IsQuoted (drop_blanks bs) q = quoted-is (drop_blanks bs) q read in
     let raw : List ℕ = take (place_len 39 q.rest) q.rest in
     let tail : List ℕ = drop (place_len 39 q.rest) q.rest in
     let wrong = when-no q.wrong Y7 (when (has_tab_after raw) Y9 ++ when (not (is_nil (drop_blanks raw))) Y11) codes in
@@ -279,25 +280,15 @@ quoted-place_is bs q is codes some =
       ends = ends-is tail some;
     }
 
-abbrev read_by : List ℕ → Bool → Option Quoted → Place
-read_by bs t o = cond t (quoted_place o) (plain_place bs (cut_place 44 bs))
-
 pub place-is : (bs : List ℕ) → (place bs).codes ≡ [] → (place bs).end ≢ missing → PlaceIs bs (place bs).value (place bs).end
-place-is bs codes some = by (is_quote (drop_blanks bs)) (quoted (drop_blanks bs)) refl codes some
-  where
-    by : (t : Bool) (o : Option Quoted) → quoted (drop_blanks bs) ≡ o → (read_by bs t o).codes ≡ [] → (read_by bs t o).end ≢ missing → PlaceIs bs (read_by bs t o).value (read_by bs t o).end
-    by true None is codes some = absurd (some refl)
-    by true (Some q) is codes some = quoted-place_is bs q (quoted-is (drop_blanks bs) q is) codes some
-    by false o is codes some =
-        let ends = ends-is (drop (place_len 44 bs) bs) some in
-        let words : List ℕ = drop_blanks (trim_end (take (place_len 44 bs) bs)) in
-        record {
-          raw = take (place_len 44 bs) bs;
-          behind = drop (place_len 44 bs) bs;
-          parts = sym (take-append-drop (place_len 44 bs) bs);
-          is = plain words (plain-is bs words refl ends codes) refl;
-          ends = ends;
-        }
+place-is bs =
+    let raw : List ℕ = take (place_len 44 bs) bs in
+    let behind : List ℕ = drop (place_len 44 bs) bs in
+    cond_both (is_quote (drop_blanks bs)) _ _ (λ (p : Place). p.codes ≡ [] → p.end ≢ missing → PlaceIs bs p.value p.end) (λ _. quoted-place_is bs (quoted (drop_blanks bs)) refl)
+    (λ _ codes some.
+    let ends = ends-is behind some in
+    let words : List ℕ = drop_blanks (trim_end raw) in
+    record { raw = raw; behind = behind; parts = sym (take-append-drop (place_len 44 bs) bs); is = plain words (plain-is bs words refl ends codes) refl; ends = ends })
 
 -- ---- a list
 

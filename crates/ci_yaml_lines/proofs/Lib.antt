@@ -16,7 +16,6 @@ pub mod SpansTexts
 pub mod SpansFlow
 pub mod SpansGiven
 pub mod SpansParsed
-pub mod Turns
 pub mod Parsed
 pub mod Forms
 pub mod SpansOf

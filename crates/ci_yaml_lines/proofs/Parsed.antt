@@ -4,23 +4,22 @@ use Rattle.std.proofs.Common.{append_assoc, arith, length-drop, length-take, ◌
 use Rattle.std.proofs.lemmas.Bool.{cond-true, cond-false}
 use Rattle.std.proofs.lemmas.List.{append-nil}
 use Rattle.std.proofs.lemmas.List.Sums.{prefix_len-le-length}
-use Rattle.ci_yaml_lines.specs.Prelude.{MAX_FILE_BYTES, Code, Y2, Y8, Y9, Tree, push, node, sequence, Members, least, least_of, dash, key, bare, drop_blanks, only_comment, head_is}
-use Rattle.ci_yaml_lines.specs.Prelude.{tail_of, trim_end, trimmed_len, before_comment, is_quote, quoted, when, item, parse_entries, keyed_or_bare, keyed, unwritten, written}
-use Rattle.ci_yaml_lines.specs.Prelude.{written_at, header_code, is_dash, is_document_mark, parse_content, parse_line, is_skipped, has_control, has_byte_order_mark, spaces}
-use Rattle.ci_yaml_lines.specs.Prelude.{is_space, place, places, after_place, value_view, items_view, entry_view, place_view, end_view, keyed_view, least_keyed, LeastKeyed}
-use Rattle.ci_yaml_lines.specs.Prelude.{LeastWritten, least_written, written_of_list, least_item, LeastParsed, least_parsed, with_entries, least_entry, key_parsed, bare_parsed}
-use Rattle.ci_yaml_lines.specs.Prelude.{with_places, least_listed, least_place}
+use Rattle.ci_yaml_lines.specs.Prelude.{Value, LeastListed, LeastPlace, no_members, member, with_place, joined, MAX_FILE_BYTES, Code, Y2, Y8, Y9, Tree, push, node, sequence}
+use Rattle.ci_yaml_lines.specs.Prelude.{Members, least, least_of, dash, key, bare, drop_blanks, only_comment, head_is, tail_of, trim_end, trimmed_len, before_comment, is_quote}
+use Rattle.ci_yaml_lines.specs.Prelude.{quoted, when, item, parse_entries, keyed_or_bare, keyed, unwritten, written, written_at, header_code, is_dash, is_document_mark}
+use Rattle.ci_yaml_lines.specs.Prelude.{parse_content, parse_line, is_skipped, has_control, has_byte_order_mark, spaces, is_space, place, places, after_place, value_view}
+use Rattle.ci_yaml_lines.specs.Prelude.{items_view, entry_view, place_view, end_view, keyed_view, least_keyed, LeastKeyed, LeastWritten, least_written, written_of_list, least_item}
+use Rattle.ci_yaml_lines.specs.Prelude.{LeastParsed, least_parsed, with_entries, least_entry, key_parsed, bare_parsed, with_places, least_listed, least_place}
+use Rattle.ci_yaml_lines.specs.Line.{Listed, Item}
+use Rattle.ci_yaml_lines.proofs.Leasts.{least_of_three, least_append, least_of_none}
 use Rattle.ci_yaml_lines.specs.declared.line.Keyed.{Keyed}
 use Rattle.ci_yaml_lines.specs.declared.flow.Place as code
 use Rattle.ci_yaml_lines.specs.declared.entry.Entry as parts
 use Rattle.ci_yaml_lines.specs.Entry.{Entry}
 use Rattle.ci_yaml_lines.specs.Scalar.{Quoted}
 use Rattle.ci_yaml_lines.specs.Line as line
-use Rattle.ci_yaml_lines.specs.Line.{Item}
 use Rattle.ci_yaml_lines.specs.View.{inner, value}
-use Rattle.ci_yaml_lines.proofs.Leasts.{least_append, least_of_none}
 use Rattle.ci_yaml_lines.proofs.Views.{items-push}
-use Rattle.ci_yaml_lines.proofs.Turns.{list_of, place-turn, places-end}
 
 pub some-same : (k : Option Keyed) (n : Option line.Keyed) → option_map keyed_view k ≡ option_map least_keyed n → is_some k ≡ is_some n
 some-same None None e = refl
@@ -108,7 +107,34 @@ content-parsed c w m s e m-is s-is =
 pub line-fits : (bs : List ℕ) → length bs ≤ MAX_FILE_BYTES → spaces bs + length (trim_end (drop (spaces bs) bs)) ≤ MAX_FILE_BYTES
 line-fits bs le = omega (arith, prefix_len-le-length is_space bs, length-take (trimmed_len (drop (spaces bs) bs)) (drop (spaces bs) bs), length-drop (spaces bs) bs)
 
--- one place of a list, as the code reads it
+-- ---- one place after the other
+
+joined-push : (ms : Members) (v : Value) (ns : Members) → joined (push ms [] v) ns ≡ joined ms (member [] v ns)
+joined-push no_members v ns = refl
+joined-push (member n w ms) v ns = ap (member n w) (joined-push ms v ns)
+
+joined-nil : (ms : Members) → joined ms no_members ≡ ms
+joined-nil no_members = refl
+joined-nil (member n w ms) = ap (member n w) (joined-nil ms)
+
+abbrev pub list_of : Members → Option (List ℕ) → Option Code → LeastListed
+list_of m r o = record { members = m; rest = r; code = o }
+
+step : (ms : Members) (code : Option Code) (v : Value) (cs : List Code) (l : Listed) → with_places (push ms [] v) (least_of code (least cs)) (least_listed l) ≡ with_places ms code (least_listed (with_place v cs l))
+step ms code v cs l =
+    λ i. list_of (joined-push ms v l.members i) l.rest ((sym (least_of_three code (least cs) (least l.codes)) ∙ λ j. least_of code (sym (least_append cs l.codes) j)) i)
+
+places-end : (ms : Members) (code : Option Code) (r : Option (List ℕ)) (o : Option Code) → with_places ms code (list_of no_members r o) ≡ list_of ms r (least_of code o)
+places-end ms code r o = λ i. list_of (joined-nil ms i) r (least_of code o)
+
+-- one more place
+place-turn : (m : ℕ) (rest : List ℕ) (ms : Members) (code : Option Code) (p : LeastPlace) → p ≡ least_place (place rest)
+    → with_places (push ms [] p.value) (least_of code p.code) (least_listed (after_place p.end (λ r. places m r))) ≡ with_places ms code (least_listed (places (suc m) rest))
+place-turn m rest ms code p e =
+    (λ i. with_places (push ms [] (e i).value) (least_of code (e i).code) (least_listed (after_place (e i).end (λ r. places m r))))
+    ∙ step ms code (place rest).value (place rest).codes (after_place (place rest).end (λ r. places m r))
+
+-- the same as the code reads it
 pub place-next : (items more : List Tree) (f : code.Place) (o p : Option Code) (rest : List ℕ) (n i : ℕ) (end : line.End) → i < n → more ≡ items ++ f.value ∷ [] → p ≡ least_of o f.code → place_view f ≡ least_place (place rest)
     → end_view f.end ≡ end → with_places (items_view more) p (least_listed (after_place end (λ r. places (n - (i + 1)) r))) ≡ with_places (items_view items) o (least_listed (places (n - i) rest))
 place-next items more f o p rest n i end lt more-is p-is f-is end-is =

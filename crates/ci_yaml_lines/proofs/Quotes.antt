@@ -5,7 +5,8 @@ use Rattle.std.specs.List.{position, position_or_len}
 use Rattle.std.proofs.lemmas.List.Sums.{fails_before_first}
 use Rattle.std.proofs.lemmas.List.Quantifiers.{position-Some}
 use Rattle.std.proofs.lemmas.Bool.{eqb-true, or_parts, or_cases, cond-true, cond-false, cases_Bool, ltb-false}
-use Rattle.std.proofs.lemmas.List.{append-nil}
+use Rattle.std.proofs.lemmas.List.{append-nil, drop_all}
+use Rattle.ci_yaml_lines.proofs.Lists.{drop-at}
 use Rattle.ci_yaml_lines.specs.Scalar.{Quoted}
 use Rattle.ci_yaml_lines.proofs.Bools.{or_false}
 use Rattle.ci_yaml_lines.specs.Prelude.{with_byte, wrongly, closes, with_words, from_place, single, is_escape, escaped, escape_of, double, head_is, tail_of, with_wrong}
@@ -45,29 +46,25 @@ wrong-is (Some q) = refl
 
 -- ---- up to the first mark
 
-to-mark : (f : List ℕ → Option Quoted) (p : ℕ → Bool) → ((b : ℕ) (bs : List ℕ) → p b ≡ false → f (b ∷ bs) ≡ with_byte b (f bs))
-    → (bs : List ℕ) (i : ℕ) → i < length bs → ((k : ℕ) → k < i → p (get_or bs k 0) ≡ false) → f bs ≡ with_words (take i bs) (f (get_or bs i 0 ∷ drop (suc i) bs))
-to-mark f p other [] i lt fails = absurd (omega arith)
-to-mark f p other (b ∷ bs) zero lt fails = sym (words-nil (f (b ∷ bs)))
-to-mark f p other (b ∷ bs) (suc i) lt fails =
-    other b bs (fails 0 (omega arith)) ∙ ap (with_byte b) (to-mark f p other bs i (omega arith) (λ k l. fails (suc k) (omega arith)))
-    ∙ byte-words b (take i bs) (f (get_or bs i 0 ∷ drop (suc i) bs))
-
-no-mark : (f : List ℕ → Option Quoted) (p : ℕ → Bool) → ((b : ℕ) (bs : List ℕ) → p b ≡ false → f (b ∷ bs) ≡ with_byte b (f bs)) → f [] ≡ None
-    → (bs : List ℕ) → ((k : ℕ) → k < length bs → p (get_or bs k 0) ≡ false) → f bs ≡ None
-no-mark f p other nil [] fails = nil
-no-mark f p other nil (b ∷ bs) fails = other b bs (fails 0 (omega arith)) ∙ ap (with_byte b) (no-mark f p other nil bs (λ k l. fails (suc k) (omega arith)))
+up-to : (f : List ℕ → Option Quoted) (p : ℕ → Bool) → ((b : ℕ) (bs : List ℕ) → p b ≡ false → f (b ∷ bs) ≡ with_byte b (f bs))
+    → (bs : List ℕ) (n : ℕ) → n ≤ length bs → ((k : ℕ) → k < n → p (get_or bs k 0) ≡ false) → f bs ≡ with_words (take n bs) (f (drop n bs))
+up-to f p other bs zero le fails = sym (words-nil (f bs))
+up-to f p other [] (suc n) le fails = absurd (omega arith)
+up-to f p other (b ∷ bs) (suc n) le fails =
+    other b bs (fails 0 (omega arith)) ∙ ap (with_byte b) (up-to f p other bs n (omega arith) (λ k l. fails (suc k) (omega arith))) ∙ byte-words b (take n bs) (f (drop n bs))
 
 found_by : (f : List ℕ → Option Quoted) (p : ℕ → Bool) → ((b : ℕ) (bs : List ℕ) → p b ≡ false → f (b ∷ bs) ≡ with_byte b (f bs)) → f [] ≡ None
     → (bs : List ℕ) (r : Option ℕ) → r ≡ position p bs → f bs ≡ from_place f bs r
-found_by f p other nil bs None e = no-mark f p other nil bs (λ k lt. none (position_or_len p bs) (nat_lt (position_or_len p bs) (length bs)) refl e k lt)
+found_by f p other nil bs None e =
+    up-to f p other bs (length bs) (omega arith) (λ k lt. none (position_or_len p bs) (nat_lt (position_or_len p bs) (length bs)) refl e k lt)
+    ∙ ap (with_words (take (length bs) bs)) (ap f (drop_all (length bs) bs (omega arith)) ∙ nil)
   where
     none : (n : ℕ) (t : Bool) → nat_lt (position_or_len p bs) (length bs) ≡ t → None ≡ cond (nat_lt (position_or_len p bs) (length bs)) (Some (position_or_len p bs)) None → (k : ℕ) → k < length bs → p (get_or bs k 0) ≡ false
     none n true is e k lt = let e2 : None ≡ Some (position_or_len p bs) = e ∙ ap (λ t. cond t (Some (position_or_len p bs)) None) is in absurd cc
     none n false is e k lt = fails_before_first p bs k 0 (omega (arith, ltb-false (position_or_len p bs) (length bs) is))
 found_by f p other nil bs (Some i) e =
     let at = position-Some p bs i 0 (sym e) in
-    (let one : suc i ≡ i + 1 = omega arith in to-mark f p other bs i at.0 at.2 ∙ ap (λ (k : ℕ). with_words (take i bs) (f (get_or bs i 0 ∷ drop k bs))) one)
+    up-to f p other bs i (omega (arith, at.0)) at.2 ∙ λ j. with_words (take i bs) (f (drop-at bs i 0 at.0 j))
 
 place_by : (p : ℕ → Bool) (P : ℕ → Type 0) → ((b : ℕ) → p b ≡ true → P b) → (bs : List ℕ) (r : Option ℕ) → r ≡ position p bs → IfSome r (λ i. (i < length bs) × P (get_or bs i 0))
 place_by p P holds bs None e = tt

@@ -1,17 +1,17 @@
 -- No `-` or `:` stands before a tab in a line without codes, but in quotes and comments.
-use Rattle.std.proofs.Common.{◌≡◌, ℕ, zero, suc, ◌+◌, ◌<◌, Bool, true, false, cond, inl, inr, List, [], ◌∷◌, ◌++◌, length, take, drop, Option, Some, None, refl, sym, ◌∙◌, ap}
+use Rattle.std.proofs.Common.{◌≡◌, ℕ, zero, suc, ◌+◌, ◌<◌, true, false, cond, inl, inr, List, [], ◌∷◌, ◌++◌, length, take, drop, Option, Some, None, refl, sym, ◌∙◌, ap}
 use Rattle.std.proofs.Common.{subst, append_assoc, length-drop, arith, ◌==◌, ◌&&◌, ◌||◌, not, is_some}
 use Rattle.std.proofs.lemmas.Bool.{eqb-true, ne_eqb, and_parts, and_right, or_parts, or_from, both_ways, cond_both, cases_Bool, or_cases, cond-false}
 use Rattle.std.proofs.lemmas.List.{take-append-drop}
 use Rattle.ci_yaml_lines.specs.Prelude.{Y2, Y6, Y7, Y9, Y11, Members, is_blank, blanks, drop_blanks, trim_end, space_next, head_is, tail_of, comment_len, before_comment}
 use Rattle.ci_yaml_lines.specs.Prelude.{only_comment, has_tab_after, is_forbidden, has_colon, when, is_quote, listed, Chomp, clip, strip, keep, behind_value, digit_next}
 use Rattle.ci_yaml_lines.specs.Prelude.{header_rest, header_of, written_quoted, written_list, written_plain, written_at, written, rest_codes, key_len, split_colon, plain_key}
-use Rattle.ci_yaml_lines.specs.Prelude.{is_colon, quoted_key, keyed, is_dash, ParsedLine, header_code, keyed_or_bare, spaces, item, dashed, unwritten, parse_entries}
+use Rattle.ci_yaml_lines.specs.Prelude.{is_colon, quoted_key, keyed, is_dash, ParsedLine, header_code, keyed_or_bare, spaces, item, dashed, parse_entries}
 use Rattle.ci_yaml_lines.specs.Prelude.{is_document_mark, parse_content, is_skipped, has_control, has_byte_order_mark, parse_line, last_of, IsComment, comment, AreBlanks}
 use Rattle.ci_yaml_lines.specs.Prelude.{HasNoMarkBeforeTab, IsPlace, ArePlaces, last, IsList, empty, IsClear, unquoted}
 use Rattle.ci_yaml_lines.specs.Scalar.{Quoted}
 use Rattle.ci_yaml_lines.specs.Scalar as scalar
-use Rattle.ci_yaml_lines.specs.Line.{Keyed, Item, Split, Written, inner, value}
+use Rattle.ci_yaml_lines.specs.Line.{Keyed, Item, Split, Written}
 use Rattle.ci_yaml_lines.specs.Comment.{nothing}
 use Rattle.ci_yaml_lines.specs.FlowList.{plain, in_quotes, more}
 use Rattle.ci_yaml_lines.specs.FlowList as flow
@@ -250,23 +250,19 @@ spaces-tab b bs = first-tab b (take (spaces bs) bs) (none bs).0 (none bs).1
         (λ _. (refl, refl))
 
 -- what the text behind a dash makes
-abbrev item_by : List ℕ → Bool → Bool → Bool → Item
-item_by r only tab entries =
-    cond only (value (unwritten [])) (cond tab (value (unwritten (Y2 ∷ []))) (cond entries (inner (1 + spaces r) (drop (spaces r) r)) (value (written 45 r))))
-
 clear-item : (b c : ℕ) (r : List ℕ) (go : ℕ → List ℕ → ParsedLine) → space_next r ≡ true
     → ((d a : ℕ) → head_is 9 (drop (spaces r) r) ≡ false → (go d (drop (spaces r) r)).codes ≡ [] → IsClear a (drop (spaces r) r))
     → (dashed c (item r) go).codes ≡ [] → IsClear b (45 ∷ r)
 clear-item b c r go space further codes =
-    clear-one b 45 r refl (by (only_comment 45 r) (head_is 9 (drop (spaces r) r)) (is_dash (drop (spaces r) r) || is_some (keyed (drop (spaces r) r))) refl refl codes)
-  where
-    by : (only tab entries : Bool) → only_comment 45 r ≡ only → head_is 9 (drop (spaces r) r) ≡ tab → (dashed c (item_by r only tab entries) go).codes ≡ [] → IsClear 45 r
-    by true tab entries is head codes = clear-only 45 r is (space-head r space)
-    by false true entries is head codes = let bad : Y2 ∷ [] ≡ [] = codes in absurd cc
-    by false false true is head codes =
-        let front : List ℕ = take (spaces r) r in
-        subst (IsClear 45) (take-append-drop (spaces r) r) (clear-behind 45 front (drop (spaces r) r) (spaces-tab 45 r) (further (c + (1 + spaces r)) (last_of 45 front) head codes))
-    by false false false is head codes = clear-written 45 r (space-head r space) codes
+    let P : Item → Type 0 = λ i. (dashed c i go).codes ≡ [] → IsClear 45 r in
+    let front : List ℕ = take (spaces r) r in
+    let more : List ℕ = drop (spaces r) r in
+    clear-one b 45 r refl
+    (cond_both (only_comment 45 r) _ _ P (λ is _. clear-only 45 r is (space-head r space))
+    (λ _. cond_both (head_is 9 more) _ _ P (λ _ f. let bad : Y2 ∷ [] ≡ [] = f in absurd cc)
+    (λ head. cond_both (is_dash more || is_some (keyed more)) _ _ P
+    (λ _ f. subst (IsClear 45) (take-append-drop (spaces r) r) (clear-behind 45 front more (spaces-tab 45 r) (further (c + (1 + spaces r)) (last_of 45 front) head f)))
+    (λ _ f. clear-written 45 r (space-head r space) f))) codes)
 
 clear-entries : (n b c : ℕ) (w : List ℕ) → length w < n → head_is 9 w ≡ false → (parse_entries n c w).codes ≡ [] → IsClear b w
 clear-entries zero b c w lt head codes = absurd (omega arith)

@@ -11,8 +11,6 @@ pub mod TreeView
 pub mod TreeTexts
 pub mod Lent
 pub mod Spans
-pub mod SpansScalar
-pub mod SpansFlow
 pub mod SpansOf
 pub mod SpansParsed
 pub mod View

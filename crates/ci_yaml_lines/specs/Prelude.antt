@@ -15,11 +15,9 @@ pub use Rattle.ci_yaml_lines.specs.Scalar.{has_colon, has_tab_after, head_is, is
 pub use Rattle.ci_yaml_lines.specs.Scalar.{number_or_text, only_comment, plain_codes, plain_value, quoted, single, space_next, tail_of, trim_end, trimmed_len, when, with_byte}
 pub use Rattle.ci_yaml_lines.specs.Scalar.{with_words, wrongly}
 pub use Rattle.ci_yaml_lines.specs.Spans.{Stand, StandOn, Writes, entries_texts, entry_texts, given_texts, none, span_before}
-pub use Rattle.ci_yaml_lines.specs.SpansFlow.{behind_end, behind_list}
 pub use Rattle.ci_yaml_lines.specs.SpansOf.{content_spans, entries_spans, given_spans, item_spans, keyed_spans, line_spans, list_spans, places_spans, scalar_span, scalar_spans}
 pub use Rattle.ci_yaml_lines.specs.SpansOf.{spans_behind, spans_of}
-pub use Rattle.ci_yaml_lines.specs.SpansParsed.{GoOn, ItemHasSpans, ItemStands, KeyOf}
-pub use Rattle.ci_yaml_lines.specs.SpansScalar.{OnlyText, text_spans}
+pub use Rattle.ci_yaml_lines.specs.SpansParsed.{GoOn, ItemHasSpans, ItemStands, KeyOf, OnlyText, behind_end, behind_list, text_spans}
 pub use Rattle.ci_yaml_lines.specs.Tabs.{IsClear, unquoted}
 pub use Rattle.ci_yaml_lines.specs.Tree.{Kind, Members, NamesFit, Value, boolean, mapping, member, no_members, node, null, number, push, sequence, text}
 pub use Rattle.ci_yaml_lines.specs.TreeTexts.{items_texts, pairs_texts, texts_in}

@@ -6,7 +6,7 @@ ghost use Rattle.ci_yaml_lines.specs.Least.{least};
 ghost use Rattle.ci_yaml_lines.specs.Scalar.{is_nil, head_is, drop_blanks, is_forbidden, has_tab_after, plain_codes, quoted};
 ghost use Rattle.ci_yaml_lines.specs.Line.{end_of, cut_place, place_codes, plain_place, behind_quoted, place, places, listed};
 ghost use Rattle.ci_yaml_lines.specs.Spans.{texts_in, items_texts, Stand};
-ghost use Rattle.ci_yaml_lines.specs.SpansFlow.{behind_end, behind_list};
+ghost use Rattle.ci_yaml_lines.specs.SpansParsed.{behind_end, behind_list};
 ghost use Rattle.ci_yaml_lines.specs.SpansOf.{spans_of, scalar_spans, places_spans, list_spans};
 ghost use Rattle.ci_yaml_lines.specs.View.{value_view, quoted_view, end_view, cut_view, place_view, listed_view, least_place, least_listed};
 

@@ -5,7 +5,7 @@ ghost use Rattle.std.specs.Str.{bytes_eq};
 ghost use Rattle.ci_yaml_lines.specs.Scalar.{count_of, negative_of, number_or_text, plain_value};
 ghost use Rattle.ci_yaml_lines.specs.View.{value_view};
 ghost use Rattle.ci_yaml_lines.specs.Spans.{texts_in};
-ghost use Rattle.ci_yaml_lines.specs.SpansScalar.{OnlyText, text_spans};
+ghost use Rattle.ci_yaml_lines.specs.SpansParsed.{OnlyText, text_spans};
 ghost use Rattle.ci_yaml_lines.specs.SpansOf.{spans_of};
 
 use crate::tree::{Span, Text, Tree, Words};

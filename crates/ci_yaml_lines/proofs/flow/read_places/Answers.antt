@@ -3,8 +3,7 @@ use Rattle.std.proofs.lemmas.List.{append-nil}
 use Rattle.ci_yaml_lines.specs.Prelude.{items_texts, spans_of, places_spans, items_view, end_view, behind_end}
 use Rattle.ci_yaml_lines.proofs.SpansOf.{exact-turn, at-first, at-last}
 use Rattle.ci_yaml_lines.specs.Line as line
-use Rattle.ci_yaml_lines.proofs.Parsed.{place-next, bracket-end, missing-is, fuel-end}
-use Rattle.ci_yaml_lines.proofs.Turns.{list_of}
+use Rattle.ci_yaml_lines.proofs.Parsed.{list_of, place-next, bracket-end, missing-is, fuel-end}
 use Rattle.ci_yaml_lines.proofs.SpansFlow.{stand-more, stand-nothing, stand-all-of}
 use Rattle.ci_yaml_lines.proofs.flow.read_places.Goals as goal
 
