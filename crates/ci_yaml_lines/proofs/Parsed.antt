@@ -19,7 +19,7 @@ use Rattle.ci_yaml_lines.specs.Entry.{Entry}
 use Rattle.ci_yaml_lines.specs.Scalar.{Quoted}
 use Rattle.ci_yaml_lines.specs.Line as line
 use Rattle.ci_yaml_lines.specs.View.{inner, value}
-use Rattle.ci_yaml_lines.proofs.Views.{items-push}
+use Rattle.ci_yaml_lines.proofs.Views.{items-push, view-Text}
 
 pub some-same : (k : Option Keyed) (n : Option line.Keyed) → option_map keyed_view k ≡ option_map least_keyed n → is_some k ≡ is_some n
 some-same None None e = refl
@@ -153,6 +153,8 @@ pub fuel-end : (ms : Members) (o : Option Code) (rest : List ℕ) (n i : ℕ) �
 fuel-end ms o rest n i le =
     let none : n - i ≡ 0 = omega arith in
     (λ i. list_of ms None (sym (least_of_none o) i)) ∙ sym (places-end ms o None None) ∙ λ i. with_places ms o (least_listed (places (sym none i) rest))
+
+pub ruleset texts_and_codes = (view-Text, least_append)
 
 pub list-written : (r : line.Listed) → written_of_list (least_listed r) ≡ least_written (line.written_list r)
 list-written r = λ i. record { given = Some (node sequence r.members); header = None; code = sym (least_append r.codes (line.rest_codes r.rest)) i }

@@ -1,14 +1,14 @@
 -- No `-` or `:` stands before a tab in a line without codes, but in quotes and comments.
-use Rattle.std.proofs.Common.{◌≡◌, ℕ, zero, suc, ◌+◌, ◌<◌, true, false, cond, inl, inr, List, [], ◌∷◌, ◌++◌, length, take, drop, Option, Some, None, refl, sym, ◌∙◌, ap}
-use Rattle.std.proofs.Common.{subst, append_assoc, length-drop, arith, ◌==◌, ◌&&◌, ◌||◌, not, is_some}
+use Rattle.std.proofs.Common.{◌≡◌, ℕ, zero, suc, ◌+◌, ◌<◌, true, false, cond, inl, inr, List, [], ◌∷◌, ◌++◌, length, take, drop, Option, Some, None, refl, sym, ◌∙◌, ap, subst}
+use Rattle.std.proofs.Common.{append_assoc, length-drop, arith, ◌==◌, ◌&&◌, ◌||◌, not, is_some}
 use Rattle.std.proofs.lemmas.Bool.{eqb-true, ne_eqb, and_parts, and_right, or_parts, or_from, both_ways, cond_both, cases_Bool, or_cases, cond-false}
 use Rattle.std.proofs.lemmas.List.{take-append-drop}
 use Rattle.ci_yaml_lines.specs.Prelude.{Y2, Y6, Y7, Y9, Y11, Members, is_blank, blanks, drop_blanks, trim_end, space_next, head_is, tail_of, comment_len, before_comment}
 use Rattle.ci_yaml_lines.specs.Prelude.{only_comment, has_tab_after, is_forbidden, has_colon, when, is_quote, listed, Chomp, clip, strip, keep, behind_value, digit_next}
 use Rattle.ci_yaml_lines.specs.Prelude.{header_rest, header_of, written_quoted, written_list, written_plain, written_at, written, rest_codes, key_len, split_colon, plain_key}
-use Rattle.ci_yaml_lines.specs.Prelude.{is_colon, quoted_key, keyed, is_dash, ParsedLine, header_code, keyed_or_bare, spaces, item, dashed, parse_entries}
-use Rattle.ci_yaml_lines.specs.Prelude.{is_document_mark, parse_content, is_skipped, has_control, has_byte_order_mark, parse_line, last_of, IsComment, comment, AreBlanks}
-use Rattle.ci_yaml_lines.specs.Prelude.{HasNoMarkBeforeTab, IsPlace, ArePlaces, last, IsList, empty, IsClear, unquoted}
+use Rattle.ci_yaml_lines.specs.Prelude.{is_colon, quoted_key, keyed, is_dash, ParsedLine, header_code, keyed_or_bare, spaces, item, dashed, parse_entries, is_document_mark}
+use Rattle.ci_yaml_lines.specs.Prelude.{parse_content, is_skipped, has_control, has_byte_order_mark, parse_line, last_of, IsComment, comment, AreBlanks, HasNoMarkBeforeTab}
+use Rattle.ci_yaml_lines.specs.Prelude.{IsPlace, ArePlaces, last, IsList, empty, IsClear, unquoted}
 use Rattle.ci_yaml_lines.specs.Scalar.{Quoted}
 use Rattle.ci_yaml_lines.specs.Scalar as scalar
 use Rattle.ci_yaml_lines.specs.Line.{Keyed, Item, Split, Written}

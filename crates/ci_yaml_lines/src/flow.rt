@@ -83,6 +83,7 @@ fn has_excluded_form(front: &str, raw: &str) -> bool
 }
 
 /// The least code of a plain scalar that is a value. The front begins with it, the raw text reaches up to its end.
+#[tactic(auto, using(crate::proofs::Leasts::least_append))]
 pub fn plain_code(front: &str, raw: &str, text: &str) -> Option<Code>
     ensures { result ≡ least (plain_codes front.now raw.now text.now) }
 {
@@ -98,6 +99,7 @@ fn is_nil(text: &str) -> bool
 }
 
 /// The least code of a plain place.
+#[tactic(auto, using(crate::proofs::Leasts::least_append))]
 fn place_code(front: &str, raw: &str, text: &str) -> Option<Code>
     ensures { result ≡ least (place_codes front.now raw.now text.now) }
 {

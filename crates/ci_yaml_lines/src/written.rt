@@ -28,6 +28,7 @@ pub struct Written<'a> {
 }
 
 /// The least code of what follows a value, whose last byte this is: it is a comment, and `-` or `:` doesn't stand directly before a tab.
+#[tactic(auto, using(crate::proofs::Leasts::least_append))]
 fn behind_value(last: u8, text: &str) -> Option<Code>
     ensures { result ≡ least (behind_value last text.now) }
 {
@@ -65,6 +66,7 @@ fn header_of<'a>(source: SourceLine, text: &'a str, rest: &str) -> Written<'a>
 }
 
 /// The same, where the rest follows the sign, or the bar, if there is no sign; this is the byte before the rest.
+#[tactic(auto, using(crate::proofs::Leasts::least_append))]
 fn header_rest<'a>(
     source: SourceLine,
     text: &'a str,
@@ -84,6 +86,7 @@ fn header_rest<'a>(
     }
 }
 
+#[tactic(auto, using(crate::proofs::Parsed::texts_and_codes))]
 fn closed(quoted: Quoted<'_>) -> Written<'_>
     ensures value { written_view result ≡ least_written (written_quoted (Some (quoted_view quoted.entry))) }
     ensures spans { given_texts result.given ≡ quoted.entry.text ∷ [] }

@@ -11,14 +11,11 @@ returns-then-slash-clause-lent c =
     escaped-ok c.args.text.now front rest c.with_escapes.result (c.in-Some.ensures.parts ∙ ap (λ t. front ++ cond t 92 34 ∷ rest) c.if-slash.true)
     c.with_escapes.ensures.value c.with_escapes.ensures.own
 
-pub returns-clause-lent : goal.returns-clause-lent
-returns-clause-lent c =
+pub returns : goal.returns
+returns c =
     let front : List ℕ = c.in-Some.front.now in
     let rest : List ℕ = c.in-Some.rest.now in
-    lent-some 34 c.args.text.now front rest c.lent.result (c.in-Some.ensures.parts ∙ ap (λ t. front ++ cond t 92 34 ∷ rest) c.if-slash.false) c.lent.ensures.value c.lent.ensures.lent
-
-pub returns-clause-value : goal.returns-clause-value
-returns-clause-value c =
-    let front = c.in-Some.front.now in
-    let rest = c.in-Some.rest.now in
-    c.lent.ensures.value ∙ sym (double-closed front c.args.text.now rest (c.in-Some.ensures.value ∙ ap (λ t. with_words front (double (cond t 92 34 ∷ rest))) c.if-slash.false))
+    record {
+      value = c.lent.ensures.value ∙ sym (double-closed front c.args.text.now rest (c.in-Some.ensures.value ∙ ap (λ t. with_words front (double (cond t 92 34 ∷ rest))) c.if-slash.false));
+      lent = lent-some 34 c.args.text.now front rest c.lent.result (c.in-Some.ensures.parts ∙ ap (λ t. front ++ cond t 92 34 ∷ rest) c.if-slash.false) c.lent.ensures.value c.lent.ensures.lent;
+    }

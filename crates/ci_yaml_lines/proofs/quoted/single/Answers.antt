@@ -9,11 +9,11 @@ returns-then-head_is-clause-lent c =
     doubled-ok c.args.text.now c.in-Some.front.now c.in-Some.rest.now c.doubled.result c.in-Some.ensures.parts (ap (head_is 39) (sym c.as_bytes.ensures.value) ∙ sym c.if-head_is.ensures)
     c.doubled.ensures.value c.doubled.ensures.own
 
-pub returns-clause-lent : goal.returns-clause-lent
-returns-clause-lent c = lent-some 39 c.args.text.now c.in-Some.front.now c.in-Some.rest.now c.lent.result c.in-Some.ensures.parts c.lent.ensures.value c.lent.ensures.lent
-
-pub returns-clause-value : goal.returns-clause-value
-returns-clause-value c =
+pub returns : goal.returns
+returns c =
     let front = c.in-Some.front.now in
     let rest = c.in-Some.rest.now in
-    c.lent.ensures.value ∙ sym (c.in-Some.ensures.value ∙ after-quote front rest (ap (head_is 39) (sym c.as_bytes.ensures.value) ∙ sym c.if-head_is.ensures))
+    record {
+      value = c.lent.ensures.value ∙ sym (c.in-Some.ensures.value ∙ after-quote front rest (ap (head_is 39) (sym c.as_bytes.ensures.value) ∙ sym c.if-head_is.ensures));
+      lent = lent-some 39 c.args.text.now front rest c.lent.result c.in-Some.ensures.parts c.lent.ensures.value c.lent.ensures.lent;
+    }
