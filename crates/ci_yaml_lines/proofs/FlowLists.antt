@@ -398,11 +398,8 @@ blanks-lack (c ∷ bs) b are other =
     let at = and_parts (is_blank c) (list_all is_blank bs) are in
     lacks-more b c bs (ne_eqb c b (λ e. both_ways (is_blank b) other (sym (ap is_blank e) ∙ at.0))) (blanks-lack bs b at.1 other)
 
-pub lacks-pair : (b c : ℕ) (bs : List ℕ) → Lacks b bs → LacksPair b c bs
-lacks-pair b c bs lacks xs ys e = lacks xs (c ∷ ys) e
-
 pub blanks-tab : (bs : List ℕ) → AreBlanks bs → has_tab_after bs ≡ false
-blanks-tab bs are = tabs-none bs (lacks-pair 45 9 bs (blanks-lack bs 45 are refl)) (lacks-pair 58 9 bs (blanks-lack bs 58 are refl))
+blanks-tab bs are = tabs-none bs (λ xs ys. blanks-lack bs 45 are refl xs (9 ∷ ys)) (λ xs ys. blanks-lack bs 58 are refl xs (9 ∷ ys))
 
 blanks-gone : (bs : List ℕ) → AreBlanks bs → drop_blanks bs ≡ []
 blanks-gone [] are = refl

@@ -13,9 +13,7 @@ pub mod FlowLists
 pub mod Tabs
 pub mod SpansStand
 pub mod SpansTexts
-pub mod SpansFlow
-pub mod SpansGiven
-pub mod SpansParsed
+pub mod SpansLine
 pub mod Parsed
 pub mod Forms
 pub mod SpansOf

@@ -21,7 +21,7 @@ use Rattle.ci_yaml_lines.specs.Scalar.{Quoted, number_of}
 use Rattle.ci_yaml_lines.specs.Line as line
 use Rattle.ci_yaml_lines.proofs.Views.{view-Null}
 use Rattle.ci_yaml_lines.proofs.SpansTexts.{texts-Text, items_texts-push}
-use Rattle.ci_yaml_lines.proofs.SpansParsed.{entries-texts-push}
+use Rattle.ci_yaml_lines.proofs.SpansLine.{entries-texts-push}
 use Rattle.std.proofs.lemmas.Bool.{eqb-false, ne_eqb, or_parts, cond-true, cond-false}
 use Rattle.ci_yaml_lines.proofs.Forms.{either}
 
@@ -90,13 +90,12 @@ exact-plain at bs scalar span v value-is span-is e none =
 
 -- ---- quoted scalars
 
-same-not : (a b : ℕ) → (a == b) ≡ false → (b == a) ≡ false
-same-not a b e = ne_eqb b a (λ same. eqb-false a b e (sym same))
-
 -- a text that begins with no quote
 pub unquoted : (bs : List ℕ) → is_quote bs ≡ false → quoted bs ≡ None
 unquoted [] e = refl
-unquoted (b ∷ bs) e = let h = or_parts (39 == b) (34 == b) e in cond-false (b == 39) _ _ (same-not 39 b h.0) ∙ cond-false (b == 34) _ _ (same-not 34 b h.1)
+unquoted (b ∷ bs) e =
+    let h = or_parts (39 == b) (34 == b) e in
+    cond-false (b == 39) _ _ (ne_eqb b 39 (λ e. eqb-false 39 b h.0 (sym e))) ∙ cond-false (b == 34) _ _ (ne_eqb b 34 (λ e. eqb-false 34 b h.1 (sym e)))
 
 quoted-span : (at : SourceLine) (bs : List ℕ) (q : parts.Quoted) → Some (quoted_view q) ≡ quoted bs → q.text.span ≡ span_before at bs q.rest.now → q.text.span ≡ scalar_span at (quoted bs) (bytes_of q.text) bs
 quoted-span at bs q is span = span ∙ ap (λ (o : Option Quoted). scalar_span at o (bytes_of q.text) bs) is

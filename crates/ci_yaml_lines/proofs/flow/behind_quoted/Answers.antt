@@ -4,7 +4,7 @@ use Rattle.ci_yaml_lines.specs.Line as line
 use Rattle.ci_yaml_lines.proofs.Views.{view-Text}
 use Rattle.ci_yaml_lines.proofs.Leasts.{least_two}
 use Rattle.ci_yaml_lines.specs.declared.tree.Tree.{Text as TextTree}
-use Rattle.ci_yaml_lines.proofs.SpansFlow.{stand-behind-quoted}
+use Rattle.ci_yaml_lines.proofs.SpansLine.{stand-behind-quoted}
 use Rattle.ci_yaml_lines.proofs.SpansTexts.{texts-Text}
 use Rattle.ci_yaml_lines.proofs.flow.behind_quoted.Goals as goal
 

@@ -1,6 +1,6 @@
 use Rattle.std.proofs.Common.{length, refl}
 use Rattle.ci_yaml_lines.specs.Prelude.{texts_in}
-use Rattle.ci_yaml_lines.proofs.SpansFlow.{stand-plain-place}
+use Rattle.ci_yaml_lines.proofs.SpansLine.{stand-plain-place}
 use Rattle.ci_yaml_lines.proofs.SpansOf.{exact-plain-place}
 use Rattle.ci_yaml_lines.proofs.flow.plain_place.Goals as goal
 

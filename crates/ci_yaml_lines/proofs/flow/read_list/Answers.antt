@@ -1,7 +1,6 @@
-use Rattle.ci_yaml_lines.proofs.SpansFlow.{stand-empty, list-within}
+use Rattle.ci_yaml_lines.proofs.SpansLine.{stand-empty, list-within, if-ok}
 use Rattle.ci_yaml_lines.proofs.SpansOf.{list-by}
 use Rattle.std.proofs.Common.{◌≡◌, ◌∙◌, length, true, false}
-use Rattle.ci_yaml_lines.proofs.SpansGiven.{if-ok}
 use Rattle.ci_yaml_lines.specs.Prelude.{items_texts, spans_of, places_spans, list_spans}
 use Rattle.ci_yaml_lines.proofs.flow.read_list.Goals as goal
 

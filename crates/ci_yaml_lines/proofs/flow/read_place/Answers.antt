@@ -1,7 +1,7 @@
 use Rattle.std.proofs.Common.{◌∷◌, [], Option, subst, false, IfSome, ◌≡◌, ◌∙◌, true, Some, None, sym, ap, option_map}
 use Rattle.ci_yaml_lines.specs.declared.quoted.Quoted.{Quoted}
 use Rattle.ci_yaml_lines.specs.Prelude.{Stand, texts_in, span_before, behind_end, Y6, is_quote, quoted, drop_blanks, missing, quoted_view, LeastPlace, scalar_spans, value_view}
-use Rattle.ci_yaml_lines.proofs.SpansFlow.{stand-behind-blanks, stand-null}
+use Rattle.ci_yaml_lines.proofs.SpansLine.{stand-behind-blanks, stand-null}
 use Rattle.ci_yaml_lines.proofs.Views.{view-Null}
 use Rattle.ci_yaml_lines.proofs.Parsed.{place-quoted, place-plain}
 use Rattle.ci_yaml_lines.proofs.SpansOf.{exact-quoted-place, exact-no-place, unquoted}

@@ -4,7 +4,8 @@ use Rattle.ci_yaml_lines.specs.Prelude.{items_texts, spans_of, places_spans, ite
 use Rattle.ci_yaml_lines.proofs.SpansOf.{exact-turn, at-first, at-last}
 use Rattle.ci_yaml_lines.specs.Line as line
 use Rattle.ci_yaml_lines.proofs.Parsed.{list_of, place-next, bracket-end, missing-is, fuel-end}
-use Rattle.ci_yaml_lines.proofs.SpansFlow.{stand-more, stand-nothing, stand-all-of}
+use Rattle.ci_yaml_lines.proofs.SpansStand.{stand-all}
+use Rattle.ci_yaml_lines.proofs.SpansLine.{stand-more, stand-nothing}
 use Rattle.ci_yaml_lines.proofs.flow.read_places.Goals as goal
 
 pub places-init : goal.places-init
@@ -57,6 +58,6 @@ places-preserved c = (
 pub returns : goal.returns
 returns c = record {
   value = fuel-end (items_view c.places.items.items) c.places.code c.places.rest.now c.args.n c.places.i (omega arith) ∙ c.places.invariant.1;
-  spans = stand-all-of c.args.source c.args.text.now c.places.rest.now c.places.items.items c.places.invariant.2;
+  spans = stand-all c.args.source c.args.text.now c.places.rest.now (items_texts c.places.items.items) c.places.invariant.2;
   exact = at-last (λ k. places_spans c.args.source k c.places.rest.now) c.args.n c.places.i _ _ refl (omega arith) c.places.invariant.3;
 }

@@ -1,6 +1,6 @@
 use Rattle.std.proofs.Common.{◌∙◌, ap}
 use Rattle.ci_yaml_lines.specs.Prelude.{entries_texts}
-use Rattle.ci_yaml_lines.proofs.SpansParsed.{entries-texts-push}
+use Rattle.ci_yaml_lines.proofs.SpansLine.{entries-texts-push}
 use Rattle.ci_yaml_lines.proofs.Parsed.{entries-push}
 use Rattle.ci_yaml_lines.proofs.line.entry_of.Goals as goal
 

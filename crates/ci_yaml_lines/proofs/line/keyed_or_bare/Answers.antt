@@ -3,8 +3,7 @@ use Rattle.ci_yaml_lines.specs.Prelude.{keyed, written, entry_view, keyed_view, 
 use Rattle.ci_yaml_lines.specs.Prelude.{entries_texts, GoOn, spans_of, scalar_span, given_spans, keyed_spans, drop_blanks, quoted, bytes_of}
 use Rattle.ci_yaml_lines.proofs.Parsed.{key-parsed, bare-parsed}
 use Rattle.ci_yaml_lines.specs.declared.line.Keyed.{Keyed}
-use Rattle.ci_yaml_lines.proofs.SpansGiven.{if-ok}
-use Rattle.ci_yaml_lines.proofs.SpansParsed.{keyed-goes, value-goes}
+use Rattle.ci_yaml_lines.proofs.SpansLine.{if-ok, keyed-goes, value-goes}
 use Rattle.ci_yaml_lines.proofs.SpansOf.{exact-keyed, exact-bare, exact-more}
 use Rattle.ci_yaml_lines.proofs.line.keyed_or_bare.Goals as goal
 

@@ -1,7 +1,7 @@
 use Rattle.std.proofs.Common.{◌≡◌, ◌∙◌, ap, sym, false, ℕ, suc, ◌+◌, length, arith}
 use Rattle.ci_yaml_lines.specs.Prelude.{Y9, head_is, when, least, parse_entries, parsed_view, least_parsed, entries_texts}
 use Rattle.ci_yaml_lines.proofs.Parsed.{content-parsed}
-use Rattle.ci_yaml_lines.proofs.SpansParsed.{no-entries, same-entries}
+use Rattle.ci_yaml_lines.proofs.SpansLine.{no-entries, same-entries}
 use Rattle.ci_yaml_lines.proofs.SpansStand.{stand-all}
 use Rattle.ci_yaml_lines.proofs.SpansOf.{exact-tab, exact-content}
 use Rattle.ci_yaml_lines.proofs.line.parse_content.Goals as goal

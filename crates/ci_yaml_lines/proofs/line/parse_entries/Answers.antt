@@ -4,8 +4,7 @@ use Rattle.ci_yaml_lines.specs.Prelude.{given_texts, entries_texts, GoOn, ItemSt
 use Rattle.ci_yaml_lines.proofs.Parsed.{stop-turn, value-turn, inner-turn, end-turn, entries-push, start-turn, dash-longer, added}
 use Rattle.ci_yaml_lines.specs.declared.tree.Text.{Text}
 use Rattle.ci_yaml_lines.proofs.SpansStand.{stand-all}
-use Rattle.ci_yaml_lines.proofs.SpansGiven.{if-ok}
-use Rattle.ci_yaml_lines.proofs.SpansParsed.{no-entries, dash-item, dash-inner}
+use Rattle.ci_yaml_lines.proofs.SpansLine.{if-ok, no-entries, dash-item, dash-inner}
 use Rattle.ci_yaml_lines.proofs.SpansOf.{at-first, exact-stop, exact-value, exact-inner, exact-dash, at-last, exact-more}
 use Rattle.ci_yaml_lines.proofs.line.parse_entries.Goals as goal
 

@@ -2,7 +2,7 @@ use Rattle.std.proofs.Common.{◌≡◌, ◌∙◌, ◌+◌, ap, sym, arith, len
 use Rattle.std.proofs.lemmas.List.Sums.{prefix_len-le-length}
 use Rattle.ci_yaml_lines.specs.Prelude.{Y9, trim_end, when, least, spaces, is_space, parse_content, parsed_view, least_parsed, entries_texts, SourceLine}
 use Rattle.ci_yaml_lines.proofs.Parsed.{line-fits, line-parsed}
-use Rattle.ci_yaml_lines.proofs.SpansParsed.{no-entries, same-entries, line-stands}
+use Rattle.ci_yaml_lines.proofs.SpansLine.{no-entries, same-entries, line-stands}
 use Rattle.ci_yaml_lines.proofs.SpansStand.{stand-all}
 use Rattle.ci_yaml_lines.proofs.SpansOf.{exact-skipped, exact-line}
 use Rattle.ci_yaml_lines.proofs.line.parse_line.Goals as goal

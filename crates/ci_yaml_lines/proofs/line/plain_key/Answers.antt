@@ -1,5 +1,5 @@
 use Rattle.std.proofs.Common.{refl}
-use Rattle.ci_yaml_lines.proofs.SpansParsed.{stand-key}
+use Rattle.ci_yaml_lines.proofs.SpansLine.{stand-key}
 use Rattle.ci_yaml_lines.proofs.line.plain_key.Goals as goal
 
 pub returns-clause-spans : goal.returns-clause-spans

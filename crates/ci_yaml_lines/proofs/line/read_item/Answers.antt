@@ -1,17 +1,17 @@
 use Rattle.std.proofs.Common.{[], ◌≡◌, ◌∙◌, ℕ, ◌+◌, true, false, drop, refl, sym, ap}
 use Rattle.ci_yaml_lines.specs.Prelude.{spaces, only_comment, head_is, least_item}
 use Rattle.ci_yaml_lines.proofs.SpansStand.{stand-none}
-use Rattle.ci_yaml_lines.proofs.SpansGiven.{stand_drop, stand-nothing}
+use Rattle.ci_yaml_lines.proofs.SpansLine.{stand_drop, stand-no_text}
 use Rattle.ci_yaml_lines.specs.View.{inner, value}
 use Rattle.ci_yaml_lines.proofs.Parsed.{item-by, item-more}
 use Rattle.ci_yaml_lines.proofs.SpansOf.{exact-item}
 use Rattle.ci_yaml_lines.proofs.line.read_item.Goals as goal
 
 pub returns-then-is_only_comment-clause-spans : goal.returns-then-is_only_comment-clause-spans
-returns-then-is_only_comment-clause-spans c = stand-nothing c.args.source c.args.text.now
+returns-then-is_only_comment-clause-spans c = stand-no_text c.args.source c.args.text.now
 
 pub returns-then-head_is-clause-spans : goal.returns-then-head_is-clause-spans
-returns-then-head_is-clause-spans c = stand-nothing c.args.source c.args.text.now
+returns-then-head_is-clause-spans c = stand-no_text c.args.source c.args.text.now
 
 pub returns-then-branch-clause-spans : goal.returns-then-branch-clause-spans
 returns-then-branch-clause-spans c =

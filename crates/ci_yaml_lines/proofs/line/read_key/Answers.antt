@@ -1,4 +1,4 @@
-use Rattle.ci_yaml_lines.proofs.SpansParsed.{stand-quoted-key}
+use Rattle.ci_yaml_lines.proofs.SpansLine.{stand-quoted-key}
 use Rattle.ci_yaml_lines.proofs.SpansOf.{exact-quoted-key, exact-plain-key, unquoted}
 use Rattle.std.proofs.Common.{◌≡◌, ◌∙◌, ap, sym, false}
 use Rattle.ci_yaml_lines.specs.Prelude.{is_quote}

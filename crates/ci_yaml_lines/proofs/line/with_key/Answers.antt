@@ -1,7 +1,6 @@
 use Rattle.std.proofs.Common.{◌≡◌, ◌∷◌, [], ◌++◌}
 use Rattle.ci_yaml_lines.specs.Prelude.{given_texts, entries_texts, GoOn, spans_of, given_spans, written, drop_blanks}
-use Rattle.ci_yaml_lines.proofs.SpansGiven.{if-ok}
-use Rattle.ci_yaml_lines.proofs.SpansParsed.{key-goes}
+use Rattle.ci_yaml_lines.proofs.SpansLine.{if-ok, key-goes}
 use Rattle.ci_yaml_lines.proofs.SpansOf.{exact-more}
 use Rattle.ci_yaml_lines.proofs.line.with_key.Goals as goal
 

@@ -2,7 +2,7 @@ use Rattle.std.proofs.Common.{◌≡◌, ◌∙◌, ap, sym, refl, true, false, 
 use Rattle.ci_yaml_lines.specs.Prelude.{is_quote, head_is, quoted, listed, header_of, written_of_list, least_written, written_view, LeastWritten, given_view, listed_view}
 use Rattle.ci_yaml_lines.specs.Prelude.{given_texts, items_texts, span_before, behind_list, quoted_view, spans_of, node, sequence}
 use Rattle.ci_yaml_lines.proofs.Parsed.{list-written, at-list, at-quoted, at-bar}
-use Rattle.ci_yaml_lines.proofs.SpansGiven.{stand-quoted, stand-same}
+use Rattle.ci_yaml_lines.proofs.SpansLine.{stand-quoted, stand-same}
 use Rattle.ci_yaml_lines.proofs.SpansOf.{unquoted, header-given, exact-quoted, exact-nothing, exact-given}
 use Rattle.ci_yaml_lines.specs.declared.quoted.Quoted.{Quoted}
 use Rattle.ci_yaml_lines.proofs.written.read_value.Goals as goal

@@ -1,11 +1,11 @@
 use Rattle.std.proofs.Common.{[], ◌≡◌}
 use Rattle.ci_yaml_lines.specs.Prelude.{blanks, drop_blanks, Stand, given_texts, written, written_at, spans_of, given_spans}
-use Rattle.ci_yaml_lines.proofs.SpansGiven.{stand_drop, stand-nothing, if-ok}
+use Rattle.ci_yaml_lines.proofs.SpansLine.{stand_drop, stand-no_text, if-ok}
 use Rattle.ci_yaml_lines.proofs.SpansOf.{exact-unwritten, exact-written}
 use Rattle.ci_yaml_lines.proofs.written.read_written.Goals as goal
 
 pub returns-then-is_only_comment-clause-spans : goal.returns-then-is_only_comment-clause-spans
-returns-then-is_only_comment-clause-spans c = stand-nothing c.args.source c.args.text.now
+returns-then-is_only_comment-clause-spans c = stand-no_text c.args.source c.args.text.now
 
 pub returns-clause-spans : goal.returns-clause-spans
 returns-clause-spans c =

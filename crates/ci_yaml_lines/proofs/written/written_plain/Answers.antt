@@ -1,5 +1,5 @@
 use Rattle.ci_yaml_lines.specs.Prelude.{texts_in}
-use Rattle.ci_yaml_lines.proofs.SpansGiven.{stand-plain}
+use Rattle.ci_yaml_lines.proofs.SpansLine.{stand-plain}
 use Rattle.ci_yaml_lines.proofs.SpansOf.{exact-plain}
 use Rattle.ci_yaml_lines.proofs.written.written_plain.Goals as goal
 

@@ -1,11 +1,13 @@
--- Where the texts of a list on one line stand.
+-- Where the texts of a line stand: those of lists on one line, those behind a dash or a colon, and those of all entries.
 use Rattle.std.proofs.Common.{◌≡◌, ℕ, false, List, [], ◌∷◌, ◌++◌, length, take, drop, ◌⊎◌, inl, inr, refl, sym, ◌∙◌, ap, subst, append_assoc, rules, ◌==◌, Result, Ok, Err, IfOk}
+use Rattle.std.proofs.Common.{Option, Some, IfSome, ◌+◌, ◌-◌, ◌≤◌, None, arith, length-append, length-drop}
 use Rattle.std.proofs.lemmas.Bool.{eqb-true, cases_Bool, cond_both}
 use Rattle.std.proofs.lemmas.List.{append-nil, take-append-drop}
 use Rattle.std.proofs.Math.Seq.{drop-append_seam}
 use Rattle.ci_yaml_lines.specs.Prelude.{is_blank, blanks, drop_blanks, trimmed_len, trim_end, tail_of, place_len, end_of, cut_place, SourceLine, Span, Tree, Null as NullTree}
 use Rattle.ci_yaml_lines.specs.Prelude.{the_lemmas, Comma, Bracket, Missing, Cut, end_view, cut_view, span_before, Stand, none, texts_in, items_texts, OnlyText, behind_end}
-use Rattle.ci_yaml_lines.specs.Prelude.{behind_list}
+use Rattle.ci_yaml_lines.specs.Prelude.{behind_list, IsLent, before_comment, comment_len, Dash, head_is, Split, split_colon, key_len, spaces, is_space, StandOn, given_texts}
+use Rattle.ci_yaml_lines.specs.Prelude.{entry_texts, entries_texts, GoOn, KeyOf, ItemStands}
 use Rattle.ci_yaml_lines.specs.Line as line
 use Rattle.ci_yaml_lines.specs.declared.tree.Text.{Text}
 use Rattle.ci_yaml_lines.specs.declared.tree.Tree.{Text as TextTree}
@@ -14,7 +16,14 @@ use Rattle.ci_yaml_lines.specs.declared.flow.Listed.{Listed}
 use Rattle.ci_yaml_lines.specs.Spans.{plain}
 use Rattle.ci_yaml_lines.proofs.FlowLists.{blank-on, blank-off}
 use Rattle.ci_yaml_lines.proofs.SpansTexts.{texts-Text, items_texts-push}
-use Rattle.ci_yaml_lines.proofs.SpansStand.{stand-earlier, stand-none, stand-then, stand-all, stand-one}
+use Rattle.ci_yaml_lines.proofs.SpansStand.{stand-earlier, stand-none, stand-then, stand-all, stand-one, longer, stand-longer}
+use Rattle.ci_yaml_lines.specs.declared.quoted.Quoted.{Quoted}
+use Rattle.std.proofs.lemmas.List.Sums.{prefix_len-le-length}
+use Rattle.ci_yaml_lines.specs.declared.line.Keyed.{Keyed}
+use Rattle.ci_yaml_lines.specs.declared.line.Item.{Item}
+use Rattle.ci_yaml_lines.specs.declared.line.Item.TheVariants.{Value}
+use Rattle.ci_yaml_lines.specs.declared.entry.Entry.{Entry}
+use Rattle.ci_yaml_lines.specs.declared.written.Written.{Written}
 
 -- ---- what comes last
 
@@ -169,9 +178,6 @@ stand-behind-blanks at bs from cs ts is stand = stand-within at bs from cs ts (s
 pub stand-nothing : (at : SourceLine) (bs : List ℕ) (vs : List Tree) → vs ≡ [] → Stand at bs (items_texts vs) bs
 stand-nothing at bs vs is = subst (λ (us : List Tree). Stand at bs (items_texts us) bs) (sym is) (stand-none at bs)
 
-pub stand-all-of : (at : SourceLine) (bs cs : List ℕ) (vs : List Tree) → Stand at bs (items_texts vs) cs → Stand at bs (items_texts vs) []
-stand-all-of at bs cs vs stand = stand-all at bs cs (items_texts vs) stand
-
 -- an empty list
 pub stand-empty : (at : SourceLine) (bs inner from cs : List ℕ) (vs : List Tree) → inner ≡ tail_of bs → from ≡ drop_blanks inner → cs ≡ tail_of from → vs ≡ [] → Stand at bs (items_texts vs) cs
 stand-empty at bs inner from cs vs inner-is from-is cs-is vs-is =
@@ -184,3 +190,141 @@ pub list-within : {E : Type 0} (at : SourceLine) (bs inner : List ℕ) → inner
     → IfOk r (λ l. Stand at bs (items_texts l.items.items) (behind_list l.rest))
 list-within at bs inner is (Ok l) stand = stand-within at bs inner (behind_list l.rest) (items_texts l.items.items) (subst (EndsIn bs) (sym is) (ends-tail bs)) stand
 list-within at bs inner is (Err e) stand = tt
+
+-- ======== behind a dash or a colon
+
+-- ---- further in front
+
+pub stand-tail : (at : SourceLine) (bs tail c : List ℕ) (ts : List Text) → tail ≡ tail_of bs → Stand at tail ts c → Stand at bs ts c
+stand-tail at bs tail c ts e stand = stand-within at bs tail c ts (subst (EndsIn bs) (sym e) (ends-tail bs)) stand
+
+pub stand_drop : (at : SourceLine) (bs from c : List ℕ) (n : ℕ) (ts : List Text) → from ≡ drop n bs → Stand at from ts c → Stand at bs ts c
+stand_drop at bs from c n ts e stand = stand-within at bs from c ts (subst (EndsIn bs) (sym e) (ends-drop n bs)) stand
+
+-- ---- texts at the front
+
+-- no text stands anywhere
+pub stand-no_text : (at : SourceLine) (bs : List ℕ) → Stand at bs [] []
+stand-no_text at bs = stand-all at bs bs [] (stand-none at bs)
+
+-- an empty text
+pub stand-empty_text : (at : SourceLine) (bs : List ℕ) (t : Text) → IsLent [] t.words → t.span ≡ span_before at bs bs → Stand at bs (texts_in (TextTree t)) bs
+stand-empty_text at bs t e is = subst (λ (ts : List Text). Stand at bs ts bs) (sym (texts-Text t)) (stand-one at bs [] [] bs t refl (plain e) is)
+
+-- without the blanks at its end
+pub trimmed-parts : (raw text : List ℕ) → text ≡ trim_end raw → raw ≡ text ++ drop (trimmed_len raw) raw
+trimmed-parts raw text e = sym (take-append-drop (trimmed_len raw) raw) ∙ λ i. sym e i ++ drop (trimmed_len raw) raw
+
+-- a plain scalar, and behind it its blanks and the rest, which end in `c`
+pub stand-trimmed : (at : SourceLine) (bs raw scalar rest c : List ℕ) (span : Span) (ts : List Text) → bs ≡ raw ++ rest → scalar ≡ trim_end raw → span ≡ span_before at bs (drop (length scalar) bs)
+    → EndsIn (drop (trimmed_len raw) raw ++ rest) c → OnlyText scalar span ts → Stand at bs ts c
+stand-trimmed at bs raw scalar rest c span ts parts scalar-is span-is ends only =
+    let behind : List ℕ = drop (trimmed_len raw) raw ++ rest in
+    let all : bs ≡ scalar ++ behind = parts ∙ (λ i. trimmed-parts raw scalar scalar-is i ++ rest) ∙ append_assoc scalar (drop (trimmed_len raw) raw) rest in
+    let behind-is : drop (length scalar) bs ≡ behind = ap (drop (length scalar)) all ∙ drop-append_seam scalar behind in
+    stand-only at bs scalar behind c span ts (record { front = []; parts = all }) ends
+    (span-is ∙ λ i. span_before at (all i) (behind-is i)) only
+
+-- a plain scalar up to a comment
+pub stand-plain : (at : SourceLine) (bs raw scalar : List ℕ) (span : Span) (ts : List Text) → raw ≡ before_comment 0 bs → scalar ≡ trim_end raw → span ≡ span_before at bs (drop (length scalar) bs)
+    → OnlyText scalar span ts → Stand at bs ts []
+stand-plain at bs raw scalar span ts raw-is scalar-is span-is only =
+    let n : ℕ = comment_len 0 bs in
+    let parts : bs ≡ raw ++ drop n bs = sym (take-append-drop n bs) ∙ λ i. sym raw-is i ++ drop n bs in
+    stand-trimmed at bs raw scalar (drop n bs) [] span ts parts scalar-is span-is (ends-none (drop (trimmed_len raw) raw ++ drop n bs)) only
+
+-- ---- what is written
+
+pub stand-same : (at : SourceLine) (bs rest : List ℕ) (ts us : List Text) → ts ≡ us → Stand at bs us rest → Stand at bs ts []
+stand-same at bs rest ts us e stand = subst (λ (x : List Text). Stand at bs x []) (sym e) (stand-all at bs rest us stand)
+
+pub stand-quoted : (at : SourceLine) (bs : List ℕ) (o : Option Quoted) (q : Quoted) (ts : List Text) → o ≡ Some q → IfSome o (λ x. Stand at bs (x.text ∷ []) x.rest.now) → ts ≡ q.text ∷ [] → Stand at bs ts []
+stand-quoted at bs o q ts is stand e =
+    stand-same at bs q.rest.now ts (q.text ∷ []) e (subst (λ (p : Option Quoted). IfSome p (λ x. Stand at bs (x.text ∷ []) x.rest.now)) is stand)
+
+-- from one fact of what was returned to another
+pub if-ok : {T E : Type 0} (r : Result T E) (P Q : T → Type 0) → ((x : T) → P x → Q x) → IfOk r P → IfOk r Q
+if-ok (Ok x) P Q f p = f x p
+if-ok (Err e) P Q f p = tt
+
+-- ======== entries and lines
+
+-- ---- keys
+
+-- what comes before the colon, and what behind it
+split-parts : (bs raw rest : List ℕ) → split_colon bs ≡ Some (record { raw = raw; rest = rest }) → (raw ≡ take (key_len 0 bs) bs) × (rest ≡ tail_of (drop (key_len 0 bs) bs))
+split-parts bs raw rest =
+    let there : Split = record { raw = raw; rest = rest } in
+    let here : Split = record { raw = take (key_len 0 bs) bs; rest = tail_of (drop (key_len 0 bs) bs) } in
+    cond_both (head_is 58 (drop (key_len 0 bs) bs)) (Some here) None (λ o. o ≡ Some there → (raw ≡ here.raw) × (rest ≡ here.rest))
+    (λ _ e. let same : there ≡ here = cc in (λ i. (same i).raw, λ i. (same i).rest)) (λ _ e. absurd cc)
+
+pub stand-key : (at : SourceLine) (bs raw rest name : List ℕ) (t : Text) → split_colon bs ≡ Some (record { raw = raw; rest = rest }) → name ≡ trim_end raw → IsLent name t.words
+    → t.span ≡ span_before at bs (drop (length name) bs) → Stand at bs (t ∷ []) rest
+stand-key at bs raw rest name t e name-is words-are span-is =
+    let from : List ℕ = drop (key_len 0 bs) bs in
+    let split = split-parts bs raw rest e in
+    let parts : bs ≡ raw ++ from = sym (take-append-drop (key_len 0 bs) bs) ∙ λ i. sym split.0 i ++ from in
+    let ends : EndsIn from rest = subst (EndsIn from) (sym split.1) (ends-tail from) in
+    stand-trimmed at bs raw name from rest t.span (t ∷ []) parts name-is span-is (ends-more (drop (trimmed_len raw) raw) from rest ends) (words-are, refl)
+
+pub stand-quoted-key : (at : SourceLine) (bs : List ℕ) (q : Option Quoted) (k : Option Keyed) → IfSome q (λ x. Stand at bs (x.text ∷ []) x.rest.now) → KeyOf q k → IfSome k (λ x. Stand at bs (x.name ∷ []) x.rest.now)
+stand-quoted-key at bs q None stand is = tt
+stand-quoted-key at bs None (Some k) stand is = absurd is
+stand-quoted-key at bs (Some q) (Some k) stand is =
+    let from : List ℕ = q.rest.now in
+    let ends : EndsIn from k.rest.now = ends-then from (drop_blanks from) k.rest.now (ends-drop (blanks from) from) (subst (EndsIn (drop_blanks from)) (sym is.1) (ends-tail (drop_blanks from))) in
+    subst (λ (t : Text). Stand at bs (t ∷ []) k.rest.now) (sym is.0) (stand-then at bs from k.rest.now (q.text ∷ []) [] stand (stand-end at from k.rest.now ends))
+
+-- ---- entries
+
+pub entries-texts-push : (es : List Entry) (e : Entry) → entries_texts (es ++ e ∷ []) ≡ entries_texts es ++ entry_texts e
+entries-texts-push [] e = append-nil (entry_texts e)
+entries-texts-push (x ∷ es) e = (λ i. entry_texts x ++ entries-texts-push es e i) ∙ sym (append_assoc (entry_texts x) (entries_texts es) (entry_texts e))
+
+pub key-goes : (at : SourceLine) (ts us all : List Text) (t : Text) (rest : List ℕ) → Stand at rest us [] → all ≡ ts ++ ((t ∷ []) ++ us) → GoOn at (ts ++ t ∷ []) rest all
+key-goes at ts us all t rest behind e bs before =
+    subst (λ (xs : List Text). Stand at bs xs []) (append_assoc ts (t ∷ []) us ∙ sym e) (stand-then at bs rest [] (ts ++ t ∷ []) us before behind)
+
+pub keyed-goes : (at : SourceLine) (ts all : List Text) (t : Text) (text rest : List ℕ) → Stand at text (t ∷ []) rest → GoOn at (ts ++ t ∷ []) rest all → GoOn at ts text all
+keyed-goes at ts all t text rest key goes bs before = goes bs (stand-then at bs text rest ts (t ∷ []) before key)
+
+pub value-goes : (at : SourceLine) (ts us all : List Text) (text : List ℕ) → Stand at text us [] → all ≡ ts ++ us → GoOn at ts text all
+value-goes at ts us all text value e bs before =
+    subst (λ (xs : List Text). Stand at bs xs []) (sym e) (stand-then at bs text [] ts us before value)
+
+-- ---- dashes
+
+pub dash-item : (at : SourceLine) (bs rest tail : List ℕ) (ts : List Text) (w : Written) (i : Item) → Stand at bs ts rest → tail ≡ tail_of rest → ItemStands at tail i → i ≡ Value w → Stand at bs (ts ++ ([] ++ given_texts w.given)) []
+dash-item at bs rest tail ts w i before tail-is item i-is =
+    let stand : Stand at tail (given_texts w.given) [] = subst (ItemStands at tail) i-is item in
+    stand-then at bs rest [] ts (given_texts w.given) before (stand-tail at rest tail [] (given_texts w.given) tail-is stand)
+
+pub dash-inner : (at : SourceLine) (bs rest tail inner : List ℕ) (es fs : List Entry) (c : ℕ) → Stand at bs (entries_texts es) rest → tail ≡ tail_of rest → Stand at tail [] inner
+    → fs ≡ es ++ (record { column = c; head = Dash; given = None }) ∷ [] → Stand at bs (entries_texts fs) inner
+dash-inner at bs rest tail inner es fs c before tail-is item fs-is =
+    subst (λ (ts : List Text). Stand at bs ts inner) (sym (ap entries_texts fs-is ∙ entries-texts-push es (record { column = c; head = Dash; given = None })))
+    (stand-then at bs rest inner (entries_texts es) [] before (stand-tail at rest tail inner [] tail-is item))
+
+pub no-entries : (at : SourceLine) (bs : List ℕ) (es : List Entry) → es ≡ [] → Stand at bs (entries_texts es) bs
+no-entries at bs es e = subst (λ (ts : List Text). Stand at bs ts bs) (sym (ap entries_texts e)) (stand-none at bs)
+
+pub same-entries : (at : SourceLine) (bs : List ℕ) (es fs : List Entry) → es ≡ fs → Stand at bs (entries_texts fs) [] → Stand at bs (entries_texts es) []
+same-entries at bs es fs e stand = subst (λ (xs : List Entry). Stand at bs (entries_texts xs) []) (sym e) stand
+
+-- ---- lines
+
+line-end : (n a b c l : ℕ) → n ≤ l → a ≡ b + c → a ≡ l - n → n + b + c ≡ l
+line-end n a b c l le e f = omega arith
+
+pub line-stands : (n column : ℕ) (l text : List ℕ) (ts : List Text) → column ≡ spaces l → text ≡ trim_end (drop (spaces l) l) → Stand (record { line = n; end = column + length text }) text ts [] → StandOn n l ts
+line-stands n column l text ts column-is text-is stand =
+    let from : List ℕ = drop (spaces l) l in
+    let xs : List ℕ = drop (trimmed_len from) from in
+    let parts : from ≡ text ++ xs = trimmed-parts from text text-is in
+    let at : SourceLine = record { line = n; end = column + length text } in
+    let all : Stand (longer at xs) (text ++ xs) ts [] = stand-all (longer at xs) (text ++ xs) xs ts (stand-longer at text [] xs ts stand) in
+    let whole : Stand (longer at xs) l ts [] = stand_drop (longer at xs) l (text ++ xs) [] (spaces l) ts (sym parts) all in
+    let end : column + length text + length xs ≡ length l = ap (λ (c : ℕ). c + length text + length xs) column-is
+    ∙ line-end (spaces l) (length from) (length text) (length xs) (length l) (prefix_len-le-length is_space l) (ap length parts ∙ length-append text xs) (length-drop (spaces l) l) in
+    subst (λ (e : ℕ). Stand (record { line = n; end = e }) l ts []) end whole
