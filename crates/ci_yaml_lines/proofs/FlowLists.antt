@@ -319,7 +319,7 @@ places-are (suc n) bs lt codes = by (λ r l f. places-are n r l f) (place bs).en
           closed = m.closed;
           inner = h.raw ++ 44 ∷ m.inner;
           parts = places-parts bs h.raw h.behind r m.inner m.rest h.parts h.ends m.parts;
-          are = more (h.raw ++ 44 ∷ m.inner) h.raw m.inner (place bs).value (places n r).members refl h.is m.are;
+          are = more (h.raw ++ 44 ∷ m.inner) h.raw m.inner (place bs).value (places n r).members (refl {a = h.raw ++ 44 ∷ m.inner}) h.is m.are;
         }
     by further (bracket r) end-is codes =
         let h = subst (PlaceIs bs (place bs).value) end-is (place-is bs codes.0 (λ bad. absurd cc)) in
