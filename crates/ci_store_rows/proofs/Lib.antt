@@ -10,6 +10,7 @@ pub mod Attempts
 pub mod JobVariables
 pub mod BlockLists
 pub mod Blocks
+pub mod Several
 pub mod Needs
 pub mod Board
 pub mod Holders

@@ -1,10 +1,14 @@
 -- The statements that write `need`.
 use Rattle.ci_store.specs.Prelude.{Le, Ge, equal, Null, Row, column, Term, lit, col, everything, understood, Ghosts, Held, state, Kept, with_record, without_record, need_cmp}
-use Rattle.ci_store.specs.Prelude.{is_within, needs_within, Need, Record, Key}
-use Rattle.ci_store_rows.specs.Prelude.{UPDATE_NEED, INSERT_NEED, DELETE_NEED, DELETE_NEEDS, SELECT_NEEDS_OF, SELECT_NEEDS_ON, SELECT_NEEDS_WITHIN, the_schema, need}
+use Rattle.ci_store.specs.Prelude.{is_within, needs_within, Need, Record, Key, Value, State, Put, applied, put, value_rows, eval_all, Changes, Enforced}
+use Rattle.sqlite_rules.specs.Action.{work_by, deed_for}
+use Rattle.sqlite_schema.specs.Rules.{parent_key}
+use Rattle.std.specs.List.{filter_map}
+use Rattle.ci_store_rows.proofs.Several.{all_put, IsIdle, GivesEach, MeansSeveral, put_several}
+use Rattle.ci_store_rows.specs.Prelude.{UPDATE_NEED, INSERT_NEED, INSERT_NEEDS, DELETE_NEED, DELETE_NEEDS, SELECT_NEEDS_OF, SELECT_NEEDS_ON, SELECT_NEEDS_WITHIN, the_schema, need}
 use Rattle.ci_store_rows.specs.Prelude.{need_index_1, number, need_row, rows_by_tree, Stands, IsAt, ShowsRecords, in_state, RemovesUnreferred}
 use Rattle.ci_store_rows.proofs.Words.{◌≡◌, ◌∙◌, ℕ, pos, List, [], ◌∷◌, map, take, drop, true, ◌&&◌, is_eq, refl, sym, nat_cmp, ordering_then, Binary, IsPlain}
-use Rattle.ci_store_rows.proofs.Words.{ascending_weaker, ascending-filter, no_limit, MeansPut, cast_int, equal_int, compares, rules}
+use Rattle.ci_store_rows.proofs.Words.{ascending_weaker, ascending-filter, no_limit, MeansPut, cast_int, equal_int, compares, rules, zero, suc, length, flat_map, subst, has_got, GivesRecord, Bool, false, ◌==◌}
 use Rattle.ci_store_rows.proofs.OneList.{alike_but}
 use Rattle.ci_store_rows.proofs.Lists.{by_two as in_two_parts}
 use Rattle.ci_store_rows.proofs.Records.{is, at_least, at_most, both_equal, same_number, finds_within}
@@ -55,12 +59,69 @@ texts = record {
   select_within = record { is = refl; unlisted = refl; plain = (refl, refl) };
 }
 
+gives : (n : Need) → GivesRecord the_schema need tests (col 1 0 ∷ cols) (lit Null ∷ cols) (key_of n.job n.pred) (need_row n)
+gives n =
+    gives_keyed 8 need refl 8 need_index_1 refl refl cols _ _ (λ r. refl) (λ r new_row is. agrees r new_row _ _ _ _ is) (λ r. refl) refl refl
+    (λ x i. cast_int (pos n.job) i ∷ cast_int (pos n.pred) i ∷ [])
+
 pub need_puts : (n : Need) → PutsRow UPDATE_NEED.now INSERT_NEED.now (need_row n) (in_state (with_record (Record.Need n)))
 need_puts n =
-    put_record needs changing texts.puts (key_of n.job n.pred) n
-    (gives_keyed 8 need refl 8 need_index_1 refl refl cols _ _ (λ r. refl) (λ r new_row is. agrees r new_row _ _ _ _ is) (λ r. refl) refl refl
-    (λ x i. cast_int (pos n.job) i ∷ cast_int (pos n.pred) i ∷ []))
-    (same_key n.job n.pred) tt
+    put_record needs changing texts.puts (key_of n.job n.pred) n (gives n) (same_key n.job n.pred) tt
+
+-- ---- sixteen rows at once
+
+-- the terms of so many rows, whose values the parameters have from a place on
+abbrev pairs_from : ℕ → ℕ → List Term
+pairs_from at zero = []
+pairs_from at (suc count) = lit Null ∷ col 0 at ∷ col 0 (suc at) ∷ pairs_from (suc (suc at)) count
+
+pub several : MeansSeveral 8 need INSERT_NEEDS.now (pairs_from 0 16) 3
+unfolding understood everything
+several = record { is = refl; plain = (refl, refl) }
+
+idle_if : (deletes : Bool) → flat_map (λ child. filter_map (λ ref. work_by 0 need.tree [] child ref (deed_for Enforced deletes ref) (parent_key the_schema.tables ref)) child.references) the_schema.tables ≡ []
+unfolding understood everything
+idle_if true = refl
+idle_if false = refl
+
+idle : IsIdle the_schema need.tree
+idle news = idle_if (length news == 0)
+
+each : GivesEach need need_row need_cmp tests (col 1 0 ∷ cols) (lit Null ∷ cols)
+each = record {
+  index = need_index_1;
+  indexed = has_got the_schema.indexes 8 need_index_1 refl;
+  guarded = refl;
+  key = λ n. key_of n.job n.pred;
+  same_key = λ n. same_key n.job n.pred;
+  gives = gives;
+  agreed = λ n r new_row is. agrees r new_row _ _ _ _ is;
+}
+
+next_value : (params : Row) (at : ℕ) (v : Value) (rest : Row) → drop at params ≡ v ∷ rest → (column params at ≡ v) × (drop (suc at) params ≡ rest)
+next_value [] zero v rest h = cc
+next_value [] (suc at) v rest h = cc
+next_value (p ∷ params) zero v rest h = (cc, cc)
+next_value (p ∷ params) (suc at) v rest h = next_value params at v rest h
+
+given : (ns : List Need) (params : Row) (at : ℕ) → drop at params ≡ flat_map need_row ns
+    → value_rows params 3 (length ns) (pairs_from at (length ns)) ≡ map (λ n. eval_all (lit Null ∷ cols) (need_row n ∷ [])) ns
+given [] params at h = refl
+given (n ∷ ns) params at h =
+    let first = next_value params at _ _ h in
+    let second = next_value params (suc at) _ _ first.1 in
+    λ i. (Null ∷ first.0 i ∷ second.0 i ∷ []) ∷ given ns params (suc (suc at)) second.1 i
+
+puts_are : (ns : List Need) (s : State) → applied (map (λ n. Put (Record.Need n)) ns) s ≡ record s { needs = all_put need_cmp ns s.needs }
+puts_are [] s = refl
+puts_are (n ∷ ns) s = puts_are ns (record s { needs = put need_cmp n s.needs })
+
+pub needs_put : {S : Type 0} (g : Ghosts S) (old new : Held S) (ns : List Need) → length ns ≡ 16 → (params : Row) → params ≡ flat_map need_row ns → (count : ℕ) → Changes g INSERT_NEEDS.now params count old new
+    → (k : Kept) → Stands k (state g old).now → Stands (in_state (applied (map (λ n. Put (Record.Need n)) ns)) k) (state g new).now
+needs_put g old new ns sixteen params is count ran k stands =
+    subst (λ s. Stands (record k { state = s }) (state g new).now) (sym (puts_are ns k.state))
+    (put_several needs changing texts.puts several idle each ns params
+    (subst (λ n. value_rows params 3 n (pairs_from 0 n) ≡ map (λ n. eval_all (lit Null ∷ cols) (need_row n ∷ [])) ns) sixteen (given ns params 0 is)) g old new count ran k stands)
 
 pub need_removed : {S : Type 0} (g : Ghosts S) (old new : Held S) (job pred : ℕ) (k : Kept) → Stands k (state g old).now → RemovesUnreferred g [] DELETE_NEED.now (key_of job pred) old new → Stands (in_state (without_record (Key.Need job pred)) k) (state g new).now
 need_removed g old new job pred =

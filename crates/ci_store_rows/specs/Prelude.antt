@@ -17,7 +17,7 @@ pub use Rattle.ci_store_rows.specs.declared.block.TheConstants.{BLOCK_BYTES}
 pub use Rattle.ci_store_rows.specs.declared.columns.TheConstants.{LAST_INTEGER}
 pub use Rattle.ci_store_rows.specs.declared.texts.TheConstants.{DELETE_ATTEMPT, DELETE_BLOCKS, DELETE_HOLDER, DELETE_JOB, DELETE_JOB_VARIABLE, DELETE_JOB_VARIABLES, DELETE_MODE}
 pub use Rattle.ci_store_rows.specs.declared.texts.TheConstants.{DELETE_NEED, DELETE_NEEDS, DELETE_PIPELINE, DELETE_PROJECT, DELETE_ROW, DELETE_RUNNER, DELETE_VARIABLE}
-pub use Rattle.ci_store_rows.specs.declared.texts.TheConstants.{INSERT_ATTEMPT, INSERT_BLOCK, INSERT_HOLDER, INSERT_JOB, INSERT_JOB_VARIABLE, INSERT_META, INSERT_MODE, INSERT_NEED}
+pub use Rattle.ci_store_rows.specs.declared.texts.TheConstants.{INSERT_ATTEMPT, INSERT_BLOCK, INSERT_HOLDER, INSERT_JOB, INSERT_JOB_VARIABLE, INSERT_META, INSERT_MODE, INSERT_NEED, INSERT_NEEDS}
 pub use Rattle.ci_store_rows.specs.declared.texts.TheConstants.{INSERT_PIPELINE, INSERT_PROJECT, INSERT_ROW, INSERT_RUNNER, INSERT_VARIABLE, SELECT_ATTEMPT, SELECT_ATTEMPTS_ABOVE}
 pub use Rattle.ci_store_rows.specs.declared.texts.TheConstants.{SELECT_ATTEMPTS_BY, SELECT_ATTEMPTS_IN, SELECT_ATTEMPTS_OF, SELECT_ATTEMPTS_WITHIN, SELECT_BLOCKS, SELECT_DEMAND}
 pub use Rattle.ci_store_rows.specs.declared.texts.TheConstants.{SELECT_DEMANDS_ABOVE, SELECT_HOLDER, SELECT_HOLDERS_IN, SELECT_HOLDERS_OF, SELECT_JOB, SELECT_JOBS_ABOVE}

@@ -13,7 +13,7 @@ mod job_variable;
 pub mod json;
 pub mod laws;
 mod mode;
-mod need;
+pub mod need;
 mod pipeline;
 mod project;
 pub mod read;

@@ -153,6 +153,10 @@ pub const SELECT_LAST_BLOCKS: &str =
 
 pub const INSERT_NEED: &str = "INSERT INTO need (job, pred) VALUES (?1, ?2)";
 
+/// The same of sixteen rows.
+pub const INSERT_NEEDS: &str =
+    "INSERT INTO need (job, pred) VALUES (?1, ?2), (?3, ?4), (?5, ?6), (?7, ?8), (?9, ?10), (?11, ?12), (?13, ?14), (?15, ?16), (?17, ?18), (?19, ?20), (?21, ?22), (?23, ?24), (?25, ?26), (?27, ?28), (?29, ?30), (?31, ?32)";
+
 pub const UPDATE_NEED: &str = "UPDATE need SET job = ?1, pred = ?2 WHERE job = ?1 AND pred = ?2";
 
 pub const DELETE_NEED: &str = "DELETE FROM need WHERE job = ?1 AND pred = ?2";
