@@ -1,17 +1,22 @@
 -- Changes in turn.
-use Rattle.std.proofs.Common.{◌≡◌, ◌∙◌, ℕ, ◌+◌, ◌<◌, List, [], ◌∷◌, fold, length, take, get_or, Result, OnOk, refl, sym, ap, subst}
+use Rattle.std.proofs.Common.{◌≡◌, ◌∙◌, ℕ, ◌+◌, ◌<◌, List, [], ◌∷◌, ◌++◌, fold, length, take, get_or, Result, OnOk, refl, sym, ap, subst, arith}
 use Rattle.std.proofs.lemmas.List.Sums.{fold_more}
+use Rattle.std.proofs.Math.Seq.{take-append_seam}
 use Rattle.ci_store.specs.Prelude.{Ghosts, Held, Kept, row_cmp, put_rows, indexed, indexed_all, cleared, BoardRow, State, put, without_all, applied, changed, RowChange}
 use Rattle.ci_store.specs.Prelude.{IndexChange}
 use Rattle.ci_machine.specs.Prelude.{without}
 use Rattle.ci_store_sqlite.specs.Prelude.{Makes}
 
-applied_is : (cs : List RowChange) (s : State) → applied cs s ≡ fold (λ s c. changed c s) s cs
-applied_is [] s = refl
-applied_is (c ∷ cs) s = applied_is cs (changed c s)
+pub applied_append : (before after : List RowChange) (s : State) → applied (before ++ after) s ≡ applied after (applied before s)
+applied_append [] after s = refl
+applied_append (c ∷ before) after s = applied_append before after (changed c s)
 
-pub applied_more : (s : State) (cs : List RowChange) (i : ℕ) (d : RowChange) → i < length cs → applied (take (i + 1) cs) s ≡ changed (get_or cs i d) (applied (take i cs) s)
-applied_more s cs i d low = applied_is (take (i + 1) cs) s ∙ fold_more (λ s c. changed c s) s cs i d low ∙ ap (changed (get_or cs i d)) (sym (applied_is (take i cs) s))
+pub no_changes : (cs : List RowChange) → length cs ≡ 0 → cs ≡ []
+no_changes [] none = refl
+no_changes (c ∷ cs) none = absurd (omega (arith, none))
+
+pub first_part : (made : ℕ) (front behind all : List RowChange) → all ≡ front ++ behind → length front ≡ made → take made all ≡ front
+first_part made front behind all is size = ap (take made) is ∙ ap (λ n. take n (front ++ behind)) (sym size) ∙ take-append_seam front behind
 
 put_rows_is : (rs : List BoardRow) (board : List BoardRow) → put_rows rs board ≡ fold (λ board r. put row_cmp r board) board rs
 put_rows_is [] board = refl

@@ -1,9 +1,9 @@
 //! Many changes in one transaction.
 
-ghost use Rattle.std.specs.Prelude.{◌≡◌, ◌≤◌, true, false, Err, OnOk};
+ghost use Rattle.std.specs.Prelude.{◌≡◌, ◌<◌, ◌≤◌, length, map, take, true, false, Err, OnOk, IfOk, IfSome, IsTrue};
 ghost use Rattle.std.specs.List.{list_any};
-ghost use Rattle.ci_store.specs.Prelude.{HasCleanDisk, Survives, doubt, state, Kept, put_rows, indexed_all, cleared, written, applied, KeepsInside, CommitsNothing};
-ghost use Rattle.ci_store_rows.specs.Prelude.{LeavesOnly, LeavesEither, in_state, in_board, MakesInside};
+ghost use Rattle.ci_store.specs.Prelude.{HasCleanDisk, Survives, doubt, state, Kept, Put, Record, put_rows, indexed_all, cleared, written, applied, KeepsInside, CommitsNothing};
+ghost use Rattle.ci_store_rows.specs.Prelude.{LeavesOnly, LeavesEither, in_state, in_board, Makes, MakesInside};
 ghost use Rattle.ci_store.specs.declared.fault.StoreFault.TheVariants.{Memory};
 ghost use Rattle.ci_store_sqlite.specs.Calls.{Loads};
 ghost use Rattle.ci_store_sqlite.specs.Commit.{CommitsAll, is_done, is_undone, IsBack, IsDone, is_next_job, first_new_job};
@@ -12,8 +12,9 @@ use crate::asked::Asked;
 use crate::load::next;
 use crate::make::{change_index, clear_row, make};
 use ci_machine::change::{Counter, IndexChange, Record, RowChange};
-use ci_machine::records::BoardRow;
+use ci_machine::records::{BoardRow, Need};
 use ci_store::fault::StoreFault;
+use ci_store_rows::need::{RUN, put_run};
 use ci_store_rows::read::Stored;
 use sqlite::{Alter, Connection, Transaction};
 use std::alloc::Global;
@@ -31,6 +32,51 @@ fn clear_rows<S: Alter>(tx: &mut Transaction<'_, S>, jobs: &[u64]) -> Result<(),
     Ok(())
 }
 
+/// The pairs that the changes put, if each puts one, of a job from the number `first_new` on.
+fn pairs_of(
+    alloc: Global,
+    first_new: u64,
+    changes: &[RowChange],
+) -> Result<Option<Vec<Need>>, StoreFault>
+    ensures { IfOk result (λ found. IfSome found (λ pairs. changes.now ≡ map (λ n. Put (Record.Need n)) pairs.items)) }
+{
+    let mut pairs = Vec::new(alloc);
+    for change in changes {
+        match change {
+            RowChange::Put(Record::Need(need)) if need.job >= first_new => pairs.push(*need)?,
+            _ => return Ok(None),
+        }
+    }
+    Ok(Some(pairs))
+}
+
+/// Makes the first change, or as many as one statement does, where these put pairs of jobs from the number `first_new` on. Answers how
+/// many it made.
+fn make_first<S: Alter>(
+    tx: &mut Transaction<'_, S>,
+    alloc: Global,
+    first_new: u64,
+    changes: &[RowChange],
+) -> Result<usize, StoreFault>
+    requires { 0 < length changes.now }
+    ensures same_reference { tx.new.conn.ghost_name ≡ tx.old.conn.ghost_name }
+    ensures count { IfOk result (λ made. (0 < made) × (made ≤ length changes.now)) }
+    ensures makes { HasCleanDisk (state S.Store tx.new.conn.now) → IsTrue tx.old.conn.now.in_transaction
+        → IfOk result (λ made. Makes S.Store (in_state (applied (take made changes.now))) tx.old.conn.now tx.new.conn.now) }
+    ensures kept { KeepsInside S.Store tx.old.conn.now tx.new.conn.now }
+    ensures survives { CommitsNothing S.Store tx.old.conn.now tx.new.conn.now }
+{
+    if RUN <= changes.len() {
+        let (run, _) = changes.split_at(RUN);
+        if let Some(pairs) = pairs_of(alloc, first_new, run)? {
+            put_run(tx, alloc, pairs.as_slice())?;
+            return Ok(RUN);
+        }
+    }
+    make(tx, alloc, first_new, &changes[0])?;
+    Ok(1)
+}
+
 /// Makes the changes in turn, where jobs from the number `first_new` on aren't there yet.
 fn make_all<S: Alter>(
     tx: &mut Transaction<'_, S>,
@@ -43,8 +89,11 @@ fn make_all<S: Alter>(
     ensures kept { KeepsInside S.Store tx.old.conn.now tx.new.conn.now }
     ensures survives { CommitsNothing S.Store tx.old.conn.now tx.new.conn.now }
 {
-    for change in changes {
-        make(tx, alloc, first_new, change)?;
+    let mut rest = changes;
+    while !rest.is_empty() {
+        let made = make_first(tx, alloc, first_new, rest)?;
+        let (_, behind) = rest.split_at(made);
+        rest = behind;
     }
     Ok(())
 }
