@@ -46,6 +46,24 @@ entries-next set i state x rest xs next whole are is h =
     let n : suc i ≡ i + 1 = omega arith in
     sym (ap (λ k. entries set k next rest) n) ∙ sym (ap (λ r. within i r >>= λ s. entries set (suc i) s rest) h) ∙ sym (ap (entries set i state) are) ∙ is
 
+pub entries-fails : {A S : Type 0} (set : ℕ → A → S → Result S Placed) (i : ℕ) (state : S) (x : A) (rest xs : List A) (whole : Result S Placed) (e d : ReadFault)
+    → xs ≡ x ∷ rest → entries set i state xs ≡ whole → IsWithin i e d → Fails e (set i x state) → Fails d whole
+entries-fails set i state x rest xs whole e d are is w h =
+    fails-same d (within i (set i x state) >>= λ s. entries set (suc i) s rest) whole (sym (ap (entries set i state) are) ∙ is)
+    (fails-then d (within i (set i x state)) (λ s. entries set (suc i) s rest) (fails-within i e d (set i x state) w h))
+
+pub each-next : {A B : Type 0} (read : List B → A → Result B Placed) (done next : List B) (x : A) (rest xs : List A) (y : B) (whole : Result (List B) Placed)
+    → xs ≡ x ∷ rest → each read done xs ≡ whole → read done x ≡ Ok y → next ≡ done ++ y ∷ [] → each read next rest ≡ whole
+each-next read done next x rest xs y whole are is h grown =
+    ap (λ ys. each read ys rest) grown ∙ sym (ap (λ r. within (length done) r >>= λ z. each read (done ++ z ∷ []) rest) h) ∙ sym (ap (each read done) are) ∙ is
+
+pub each-fails : {A B : Type 0} (read : List B → A → Result B Placed) (done : List B) (x : A) (rest xs all : List A) (from : Result (List A) Placed) (e d : ReadFault)
+    → xs ≡ x ∷ rest → each read done xs ≡ each read [] all → from ≡ Ok all → IsWithin (length done) e d → Fails e (read done x) → Fails d (from >>= λ ys. each read [] ys)
+each-fails read done x rest xs all from e d are is of w h =
+    fails-same d (within (length done) (read done x) >>= λ y. each read (done ++ y ∷ []) rest) (from >>= λ ys. each read [] ys)
+    (sym (ap (each read done) are) ∙ is ∙ sym (ap (λ r. r >>= λ ys. each read [] ys) of))
+    (fails-then d (within (length done) (read done x)) (λ y. each read (done ++ y ∷ []) rest) (fails-within (length done) e d (read done x) w h))
+
 -- ---- what may hold expressions
 -- each pattern is built, but perhaps those of one entry behind so many, or of a later one
 abbrev pub From : ℕ → Patterns → Type 0

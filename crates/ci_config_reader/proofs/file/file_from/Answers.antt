@@ -1,9 +1,20 @@
-use Rattle.std.proofs.Common.{◌+◌, drop}
-use Rattle.ci_config.specs.Prelude.{file_entry, file_from, pair_view, pairs_view}
+use Rattle.std.proofs.Common.{◌+◌, drop, subst}
+use Rattle.ci_config.specs.Prelude.{value_view, file_entry, file_from, pair_view, pairs_view}
+use Rattle.ci_config_reader.specs.Answer.{builds_with}
 use Rattle.ci_config_reader.specs.Parts.{file_parts_view}
-use Rattle.ci_config_reader.proofs.Telling.{map-next}
+use Rattle.ci_config_reader.proofs.Telling.{Fails, map-next, map-fails}
 use Rattle.ci_config_reader.proofs.Trees.{step}
 use Rattle.ci_config_reader.proofs.file.file_from.Goals as goal
+
+pub returns-in-Err : goal.returns-in-Err
+returns-in-Err c =
+    let ms = c.args.pairs.now in
+    let i = c.loop-before.before in
+    let m = c.index-pairs-before.result in
+    let e = c.in-Err.fault in
+    map-fails file_entry i (file_parts_view c.loop-before.parts) (pair_view m) (pairs_view (drop (i + 1) ms)) (pairs_view (drop i ms)) (file_from (pairs_view ms)) e c.within.result
+    (step pair_view ms i m c.loop-before-test.true c.index-pairs-before.is) c.loop-before.invariant c.within.ensures
+    (subst (λ key. Fails e (file_entry (builds_with e) (key, value_view m.1) (file_parts_view c.loop-before.parts))) c.as_str.ensures c.in-Err.ensures)
 
 pub loop-before-preserved : goal.loop-before-preserved
 loop-before-preserved c =
