@@ -1,6 +1,6 @@
 //! The router of paths.
 
-ghost use Rattle.std.specs.Prelude.{◌≡◌, IfOk};
+ghost use Rattle.std.specs.Prelude.{◌≡◌, [], IfOk};
 ghost use Rattle.ci_http_messages.specs.Table.{first_rows, table, with_path, TakesPath};
 
 use matchit::{InsertError, Router};
@@ -37,62 +37,64 @@ pub(crate) fn router_of(alloc: Global) -> Result<Router<Pattern>, AllocError>
     ensures { IfOk result (λ router. router ≡ table) }
 {
     let mut router = Router::new(alloc);
-    add(&mut router, "/api/v4/jobs/request", Pattern::Queue)?;
-    add(&mut router, "/api/v4/jobs/{n}", Pattern::Attempt)?;
-    add(&mut router, "/api/v4/jobs/{n}/trace", Pattern::AttemptTrace)?;
+    add_first(&mut router)?;
+    add_reads(&mut router)?;
+    Ok(router)
+}
+
+// Adds the paths that ask for something to be done, and those that show one pipeline, job or resource group. It borrows the router: one that it
+// held would be dropped where a call fails, and with so many calls that makes a long proof. Errors: memory was refused.
+fn add_first(router: &mut Router<Pattern>) -> Result<(), AllocError>
+    requires { router.old ≡ [] }
+    ensures { IfOk result (λ _. router.new ≡ first_rows) }
+{
+    add(router, "/api/v4/jobs/request", Pattern::Queue)?;
+    add(router, "/api/v4/jobs/{n}", Pattern::Attempt)?;
+    add(router, "/api/v4/jobs/{n}/trace", Pattern::AttemptTrace)?;
+    add(router, "/api/v4/projects/{id}/ci_file", Pattern::CiFile)?;
     add(
-        &mut router,
-        "/api/v4/projects/{id}/ci_file",
-        Pattern::CiFile,
-    )?;
-    add(
-        &mut router,
+        router,
         "/api/v4/projects/{id}/variables/{key}",
         Pattern::Variable,
     )?;
     add(
-        &mut router,
+        router,
         "/api/v4/projects/{id}/resource_groups/{key}",
         Pattern::ResourceGroup,
     )?;
+    add(router, "/api/v4/projects/{id}/pipeline", Pattern::Creation)?;
     add(
-        &mut router,
-        "/api/v4/projects/{id}/pipeline",
-        Pattern::Creation,
-    )?;
-    add(
-        &mut router,
+        router,
         "/api/v4/projects/{id}/pipelines/{n}",
         Pattern::Pipeline,
     )?;
     add(
-        &mut router,
+        router,
         "/api/v4/projects/{id}/pipelines/{n}/cancel",
         Pattern::PipelineCancel,
     )?;
-    add(&mut router, "/api/v4/projects/{id}/jobs/{n}", Pattern::Job)?;
+    add(router, "/api/v4/projects/{id}/jobs/{n}", Pattern::Job)?;
     add(
-        &mut router,
+        router,
         "/api/v4/projects/{id}/jobs/{n}/trace",
         Pattern::JobTrace,
     )?;
     add(
-        &mut router,
+        router,
         "/api/v4/projects/{id}/jobs/{n}/play",
         Pattern::JobPlay,
     )?;
     add(
-        &mut router,
+        router,
         "/api/v4/projects/{id}/jobs/{n}/cancel",
         Pattern::JobCancel,
     )?;
     add(
-        &mut router,
+        router,
         "/api/v4/projects/{id}/jobs/{n}/retry",
         Pattern::JobRetry,
     )?;
-    add_reads(&mut router)?;
-    Ok(router)
+    Ok(())
 }
 
 // Adds the paths that tell what a project has, and that of the server's health. Errors: memory was refused.
