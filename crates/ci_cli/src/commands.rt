@@ -179,7 +179,7 @@ fn start_of_opening<C: Clock>(log: LogLevel, clock: &C) -> Option<Instant> {
     }
 }
 
-/// Serves the connections of a port of 127.0.0.1. What a first poll needs is looked up before it says that it listens.
+/// Listens at a port of 127.0.0.1, and serves its connections.
 fn listen<S: Alter, C: Clock, R: RandomSource, O: Write, E: Write>(
     rt: &HostRuntime,
     server: &mut Server<S>,
@@ -192,9 +192,32 @@ fn listen<S: Alter, C: Clock, R: RandomSource, O: Write, E: Write>(
     let Ok(mut listener) = TcpListener::bind(rt, address) else {
         return end(output, journal, Line::CannotListen(options.port));
     };
-    let Ok(paths) = Paths::new(rt.alloc()) else {
-        return end(output, journal, Line::NoMemory);
-    };
+    match Paths::new(rt.alloc()) {
+        Ok(paths) => hear(
+            rt,
+            &mut listener,
+            server,
+            &paths,
+            options,
+            sources,
+            output,
+            journal,
+        ),
+        Err(_) => end(output, journal, Line::NoMemory),
+    }
+}
+
+/// Serves the connections of a listener. What a first poll needs is looked up before it says that it listens.
+fn hear<S: Alter, C: Clock, R: RandomSource, O: Write, E: Write>(
+    rt: &HostRuntime,
+    listener: &mut TcpListener,
+    server: &mut Server<S>,
+    paths: &Paths,
+    options: ServeOptions<'_>,
+    sources: &Sources<'_, C, R>,
+    output: &mut O,
+    journal: &Journal<'_, E>,
+) -> u8 {
     prepare(rt.alloc(), server, journal);
     let heard = say(output, Line::Listening(options.port));
     if heard != DONE || output.flush().is_err() {
@@ -203,10 +226,10 @@ fn listen<S: Alter, C: Clock, R: RandomSource, O: Write, E: Write>(
     let served = serve_connections(
         rt,
         rt.alloc(),
-        &mut listener,
+        listener,
         options.port,
         server,
-        &paths,
+        paths,
         sources,
         journal,
         Duration::from_secs(PATIENCE_SECONDS),

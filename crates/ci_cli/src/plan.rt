@@ -28,19 +28,32 @@ pub fn plan<I: Read + Drop, O: Write>(
 
 /// The pipeline that is asked for. Errors: memory was refused.
 fn asked(alloc: Global, options: &PlanOptions<'_>) -> Result<NewPipeline, AllocError> {
-    let mut variables = Vec::new(alloc);
-    for (key, value) in &options.variables {
-        variables.push(PipelineVariable {
-            key: Text::copy_of(alloc, key)?,
-            value: Text::copy_of(alloc, value)?,
-        })?;
-    }
+    let token = Text::copy_of(alloc, "")?;
+    let git_ref = Text::copy_of(alloc, options.git_ref)?;
+    let variables = variables_of(alloc, options)?;
     Ok(NewPipeline {
         project: PROJECT,
-        token: Text::copy_of(alloc, "")?,
-        git_ref: Text::copy_of(alloc, options.git_ref)?,
+        token,
+        git_ref,
         kind: options.kind,
         source: options.source,
         variables: Items::new(variables),
     })
+}
+
+fn variables_of(
+    alloc: Global,
+    options: &PlanOptions<'_>,
+) -> Result<Vec<PipelineVariable>, AllocError> {
+    let mut variables = Vec::new(alloc);
+    for (key, value) in &options.variables {
+        variables.push(variable_of(alloc, key, value)?)?;
+    }
+    Ok(variables)
+}
+
+fn variable_of(alloc: Global, key: &str, value: &str) -> Result<PipelineVariable, AllocError> {
+    let key = Text::copy_of(alloc, key)?;
+    let value = Text::copy_of(alloc, value)?;
+    Ok(PipelineVariable { key, value })
 }
