@@ -19,8 +19,8 @@ stay f HasGone xs ys k = All-from_has _ xs (λ x m. ⊎_elim
 
 stays_from : (h : List Past) (s t : State) → Since h s t → Stays h s t
 stays_from h s t l = record {
-  projects = stay project_for_good (λ _. ⊥) s.projects t.projects (λ x k. inl (l.projects x k));
-  runners = stay runner_for_good (λ _. ⊥) s.runners t.runners (λ x k. inl (l.runners x k));
+  projects = stay project_for_good (λ _. ⊥) s.projects t.projects l.projects;
+  runners = stay runner_for_good (λ _. ⊥) s.runners t.runners l.runners;
   pipelines = stay (λ p. p) (λ (p : Pipeline). WasPruned h p.id) s.pipelines t.pipelines l.pipelines;
   jobs = stay job_for_good (λ (j : Job). WasPruned h j.pipeline) s.jobs t.jobs l.jobs;
   attempts = stay attempt_for_good (WentWithItsJob h) s.attempts t.attempts l.attempts;

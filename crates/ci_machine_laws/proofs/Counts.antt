@@ -1,64 +1,50 @@
--- A list has no fewer records that pass a test once a record is put, where what it replaces passes no more than it does.
-use Rattle.std.proofs.Common.{◌≡◌, ℕ, ◌+◌, ◌≤◌, Bool, true, false, not, List, [], ◌∷◌, length, filter, nat_cmp, is_eq, is_lt, Ordering, sym, ap, subst, ◌∙◌, ⊎_elim, arith}
-use Rattle.std.proofs.lemmas.Bool.{cond_both, cases_Bool}
-use Rattle.ci_machine_steps.specs.Prelude.{placed, others, put}
-use Rattle.ci_machine.proofs.Keyed.{Has, Rising, Below, rising_from, equal, unequal}
-use Rattle.ci_machine.proofs.Filters.{filter_all}
+-- How many records of a list pass a test.
+use Rattle.std.proofs.Common.{◌≡◌, ℕ, suc, ◌+◌, ◌≤◌, Bool, true, false, List, [], ◌∷◌, length, map, filter, nat_cmp, sym, ap, subst, ◌∙◌, inl, inr, ⊎_elim, refl, arith}
+use Rattle.std.proofs.lemmas.Bool.{cond_both, cond-true, cond-false}
+use Rattle.std.proofs.lemmas.List.{length-append}
+use Rattle.std.proofs.lemmas.List.Elements.{filter-append}
+use Rattle.ci_machine_steps.specs.Prelude.{put}
+use Rattle.ci_machine.proofs.Keyed.{Has, Below}
+use Rattle.ci_machine_steps.proofs.Behind.{nat_less, put_behind}
 
 -- how many of a list pass
 abbrev pub passing : {A : Type 0} → (A → Bool) → List A → ℕ
 passing p xs = length (filter p xs)
 
-passing_cons : {A : Type 0} (p : A → Bool) (z : A) (xs ys : List A) → passing p xs ≤ passing p ys → passing p (z ∷ xs) ≤ passing p (z ∷ ys)
-passing_cons p z xs ys l =
-    ⊎_elim (λ e. rw e (omega (arith, l))) (λ e. rw e l) (cases_Bool (p z))
+pub passing_mapped : {A : Type 0} (p : A → Bool) (f : A → A) (xs : List A) → passing p (map f xs) ≡ passing (λ x. p (f x)) xs
+passing_mapped p f [] = refl
+passing_mapped p f (x ∷ xs) =
+    cond_both (p (f x)) (f x ∷ filter p (map f xs)) (filter p (map f xs)) (λ l. length l ≡ passing (λ y. p (f y)) (x ∷ xs))
+    (λ e. ap suc (passing_mapped p f xs) ∙ sym (ap (λ (l : List _). length l) (cond-true (p (f x)) (x ∷ filter (λ y. p (f y)) xs) (filter (λ y. p (f y)) xs) e)))
+    (λ e. passing_mapped p f xs ∙ sym (ap (λ (l : List _). length l) (cond-false (p (f x)) (x ∷ filter (λ y. p (f y)) xs) (filter (λ y. p (f y)) xs) e)))
 
-passing_more : {A : Type 0} (p : A → Bool) (x : A) (xs : List A) → passing p xs ≤ passing p (x ∷ xs)
-passing_more p x xs = ⊎_elim (λ e. rw e (omega arith)) (λ e. rw e (omega arith)) (cases_Bool (p x))
+-- what passes the one test passes the other
+pub passing_implied : {A : Type 0} (p q : A → Bool) (xs : List A) → ((x : A) → Has x xs → q x ≡ true → p x ≡ true) → passing q xs ≤ passing p xs
+passing_implied p q [] h = omega arith
+passing_implied p q (x ∷ xs) h =
+    let rest = passing_implied p q xs (λ y k. h y (inr k)) in
+    cond_both (q x) (x ∷ filter q xs) (filter q xs) (λ l. length l ≤ passing p (x ∷ xs))
+    (λ e. rw (h x (inl refl) e) (omega arith))
+    (λ e. cond_both (p x) (x ∷ filter p xs) (filter p xs) (λ l. passing q xs ≤ length l) (λ _. omega arith) (λ _. omega arith))
 
-passing_swap : {A : Type 0} (p : A → Bool) (x z : A) (xs : List A) → passing p (x ∷ z ∷ xs) ≤ passing p (z ∷ x ∷ xs)
-passing_swap p x z xs =
+-- and one of them doesn't any more
+pub passing_fewer : {A : Type 0} (p q : A → Bool) (xs : List A) → ((x : A) → Has x xs → q x ≡ true → p x ≡ true) → (x : A) → Has x xs → p x ≡ true → q x ≡ false → passing q xs + 1 ≤ passing p xs
+passing_fewer p q [] h x k e f = absurd k
+passing_fewer p q (z ∷ zs) h x k e f =
     ⊎_elim
-    (λ e. ⊎_elim (λ f. rw e (rw f (omega arith))) (λ f. rw e (rw f (omega arith))) (cases_Bool (p z)))
-    (λ e. ⊎_elim (λ f. rw e (rw f (omega arith))) (λ f. rw e (rw f (omega arith))) (cases_Bool (p z)))
-    (cases_Bool (p x))
+    (λ s.
+    let rest = passing_implied p q zs (λ y m. h y (inr m)) in
+    let no_more : q z ≡ false = ap q (sym s) ∙ f in
+    let before : p z ≡ true = ap p (sym s) ∙ e in
+    rw no_more (rw before (omega arith)))
+    (λ m.
+    let rest = passing_fewer p q zs (λ y n. h y (inr n)) x m e f in
+    cond_both (q z) (z ∷ filter q zs) (filter q zs) (λ l. length l + 1 ≤ passing p (z ∷ zs))
+    (λ g. rw (h z (inl refl) g) (omega arith))
+    (λ g. cond_both (p z) (z ∷ filter p zs) (filter p zs) (λ l. passing q zs + 1 ≤ length l) (λ _. omega arith) (λ _. omega arith)))
+    k
 
--- wherever x is placed
-passing_placed : {A : Type 0} (cmp : A → A → Ordering) (p : A → Bool) (x : A) (xs : List A) → passing p (x ∷ xs) ≤ passing p (placed cmp x xs)
-passing_placed cmp p x [] = omega arith
-passing_placed cmp p x (z ∷ zs) =
-    cond_both (is_lt (cmp z x)) (z ∷ placed cmp x zs) (x ∷ z ∷ zs) (λ l. passing p (x ∷ z ∷ zs) ≤ passing p l)
-    (λ _. let a = passing_swap p x z zs in let b = passing_cons p z (x ∷ zs) (placed cmp x zs) (passing_placed cmp p x zs) in omega arith)
-    (λ _. omega arith)
-
-module _ {A : Type 0} (id : A → ℕ) (p : A → Bool) (x : A) where
-  abbrev cmp : A → A → Ordering
-  cmp a b = nat_cmp (id a) (id b)
-
-  -- x is new
-  pub passing_new : (n : ℕ) (xs : List A) → Below id n xs → n ≤ id x → passing p xs ≤ passing p (put cmp x xs)
-  passing_new n xs below l =
-      let all : others cmp x xs ≡ xs = filter_all (λ y. not (is_eq (cmp y x))) xs (λ y k. unequal (id y) (id x) (λ e. let b = below y k in absurd (omega arith))) in
-      subst (λ ys. passing p xs ≤ passing p (placed cmp x ys)) (sym all)
-      (let a = passing_more p x xs in let b = passing_placed cmp p x xs in omega arith)
-
-  -- x stands in the place of a, which passes only if x does
-  passing_others : (a : A) (low : ℕ) (xs : List A) → Rising id low xs → Has a xs → id x ≡ id a → p x ≡ p a → passing p xs ≤ passing p (x ∷ others cmp x xs)
-  passing_others a low [] r k same alike = absurd k
-  passing_others a low (z ∷ zs) r k same alike =
-      ⊎_elim
-      (λ e.
-      let gone : not (is_eq (cmp z x)) ≡ false = ap not (equal (id z) (id x) (sym (same ∙ ap id e))) in
-      let rest : others cmp x zs ≡ zs = filter_all (λ y. not (is_eq (cmp y x))) zs (λ y m. unequal (id y) (id x) (λ f. let b = rising_from id y (id z + 1) zs r.1 m in let c : id x ≡ id z = same ∙ ap id e in absurd (omega arith))) in
-      let alike_z : p z ≡ p x = ap p (sym e) ∙ sym alike in
-      rw gone (rw rest (rw alike_z (⊎_elim (λ f. rw f (omega arith)) (λ f. rw f (omega arith)) (cases_Bool (p x))))))
-      (λ m.
-      let stays : not (is_eq (cmp z x)) ≡ true = unequal (id z) (id x) (λ f. let b = rising_from id a (id z + 1) zs r.1 m in absurd (omega arith)) in
-      rw stays (let i = passing_cons p z zs (x ∷ others cmp x zs) (passing_others a (id z + 1) zs r.1 m same alike) in let j = passing_swap p z x (others cmp x zs) in omega arith))
-      k
-
-  pub passing_put : (a : A) (xs : List A) → Rising id 0 xs → Has a xs → id x ≡ id a → p x ≡ p a → passing p xs ≤ passing p (put cmp x xs)
-  passing_put a xs r k same alike =
-      let i = passing_others a 0 xs r k same alike in
-      let j = passing_placed cmp p x (others cmp x xs) in
-      omega arith
+-- a record behind all others
+pub passing_new : {A : Type 0} (id : A → ℕ) (p : A → Bool) (x : A) (n : ℕ) (xs : List A) → Below id n xs → n ≤ id x → passing p xs ≤ passing p (put (λ a b. nat_cmp (id a) (id b)) x xs)
+passing_new id p x n xs below l =
+    rw (put_behind (λ a b. nat_cmp (id a) (id b)) x xs (λ y k. nat_less (id y) (id x) (omega (arith, below y k))), filter-append p xs (x ∷ []), length-append (filter p xs) (filter p (x ∷ []))) (omega arith)

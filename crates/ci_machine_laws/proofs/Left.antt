@@ -6,7 +6,7 @@ use Rattle.ci_machine_steps.specs.Prelude.{attempt_for_good, Prunes, WasPruned, 
 use Rattle.ci_machine.proofs.Keyed.{not_true, Has, Rising, rising_filter, has_filter, filter_has, Named}
 use Rattle.ci_machine_steps.proofs.Pruned.{among_its, job_left, job_was, attempts_left, attempt_was, attempt_left}
 use Rattle.ci_machine_laws.proofs.Gone.{still_pruned, still_gone, is_pruned, goes_with}
-use Rattle.ci_machine_laws.proofs.Linked.{Kept, kept, kept_through, Later, later, Linked, Follows}
+use Rattle.ci_machine_laws.proofs.Linked.{Later, later, Linked, Follows}
 use Rattle.ci_machine_laws.proofs.Joined.{Joined}
 
 -- ---- what records name is left with them
@@ -70,16 +70,16 @@ through f G H xs ys zs more alike a b x k =
 
 -- what was there is there, or a line of the history pruned it
 pub record Since (h : List Past) (s t : State) : Type 0 where
-  pub projects : Kept project_for_good s.projects t.projects
-  pub runners : Kept runner_for_good s.runners t.runners
+  pub projects : KeptOr project_for_good (λ _. ⊥) s.projects t.projects
+  pub runners : KeptOr runner_for_good (λ _. ⊥) s.runners t.runners
   pub pipelines : KeptOr (λ p. p) (λ p. WasPruned h p.id) s.pipelines t.pipelines
   pub jobs : KeptOr job_for_good (λ j. WasPruned h j.pipeline) s.jobs t.jobs
   pub attempts : KeptOr attempt_for_good (WentWithItsJob h) s.attempts t.attempts
 
 since_later : (h : List Past) (s t : State) → Later s t → Since h s t
 since_later h s t l = record {
-  projects = l.projects;
-  runners = l.runners;
+  projects = λ x k. inl (l.projects x k);
+  runners = λ x k. inl (l.runners x k);
   pipelines = λ x k. inl (l.pipelines x k);
   jobs = λ x k. inl (l.jobs x k);
   attempts = λ x k. inl (l.attempts x k);
@@ -89,8 +89,8 @@ since_pruned : (p : Past) (h : List Past) (n : ℕ) → Rising (λ (j : Job). j.
 since_pruned p h n jobs_rise rise prunes =
     let s = p.before in
     record {
-      projects = kept project_for_good s.projects s.projects refl;
-      runners = kept runner_for_good s.runners s.runners refl;
+      projects = λ x k. inl (x, (k, refl));
+      runners = λ x k. inl (x, (k, refl));
       pipelines = λ x k. ⊎_elim
           (λ (e : (x.id == n) ≡ true). inr (subst (λ m. WasPruned (p ∷ h) m) (sym (eqb-true x.id n e)) (is_pruned p h n prunes)))
           (λ (e : (x.id == n) ≡ false). inl (x, (filter_has (λ (q : Pipeline). not (q.id == n)) x s.pipelines k (ap not e), refl)))
@@ -115,8 +115,8 @@ since_line p h t jobs_rise rise follows =
 
 pub since_through : (p : Past) (h : List Past) (s m t : State) → Since h s m → Since (p ∷ h) m t → Since (p ∷ h) s t
 since_through p h s m t a b = record {
-  projects = kept_through project_for_good s.projects m.projects t.projects a.projects b.projects;
-  runners = kept_through runner_for_good s.runners m.runners t.runners a.runners b.runners;
+  projects = through project_for_good (λ _. ⊥) (λ _. ⊥) s.projects m.projects t.projects (λ x w. w) (λ x y e w. w) a.projects b.projects;
+  runners = through runner_for_good (λ _. ⊥) (λ _. ⊥) s.runners m.runners t.runners (λ x w. w) (λ x y e w. w) a.runners b.runners;
   pipelines = through (λ (x : Pipeline). x) (λ x. WasPruned h x.id) (λ x. WasPruned (p ∷ h) x.id) s.pipelines m.pipelines t.pipelines
       (λ x w. still_pruned p h x.id w) (λ x y e w. subst (λ (v : Pipeline). WasPruned (p ∷ h) v.id) e w) a.pipelines b.pipelines;
   jobs = through job_for_good (λ x. WasPruned h x.pipeline) (λ x. WasPruned (p ∷ h) x.pipeline) s.jobs m.jobs t.jobs

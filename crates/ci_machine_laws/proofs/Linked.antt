@@ -1,5 +1,5 @@
 -- What a step leaves, and which records others name.
-use Rattle.std.proofs.Common.{◌≡◌, ◌⊎◌, ℕ, ◌+◌, ◌<◌, ◌≤◌, Bool, ◌==◌, not, List, [], ◌∷◌, ◌++◌, length, filter, Ok, nat_cmp, is_eq, is_lt, Ordering, refl}
+use Rattle.std.proofs.Common.{◌≡◌, ◌⊎◌, ℕ, ◌+◌, ◌<◌, ◌≤◌, Bool, ◌==◌, not, List, [], ◌∷◌, ◌++◌, length, map, filter, Ok, nat_cmp, is_eq, is_lt, Ordering, refl}
 use Rattle.std.proofs.Common.{sym, ap, subst, ◌∙◌, inl, inr, ⊎_elim, arith}
 use Rattle.std.proofs.lemmas.Bool.{cases_Bool, cond_both}
 use Rattle.ci_machine_steps.specs.Prelude.{BoardRow, Need, Project, Runner, Pipeline, QueuedJob, Job, Attempt, RowChange, NewPipeline}
@@ -8,9 +8,10 @@ use Rattle.ci_machine_steps.specs.Prelude.{attempts_of, Layout, IsLaidOut, creat
 use Rattle.ci_machine_steps.specs.Prelude.{Happens, project_for_good, runner_for_good}
 use Rattle.ci_machine_steps.specs.Prelude.{job_for_good, attempt_for_good}
 use Rattle.ci_graph_layout.specs.Prelude.{Given}
-use Rattle.ci_machine.proofs.Keyed.{Has, Rising, has_put, put_has, same, rising_put, has_find, one_at, Below, Named}
-use Rattle.ci_machine_laws.proofs.Counts.{passing_new, passing_put}
-use Rattle.ci_machine_steps.proofs.Behind.{in_either, has_left, has_right, put_all, has_all}
+use Rattle.ci_machine.proofs.Keyed.{Has, Rising, has_put, put_has, same, rising_put, has_find, has_map, one_at, Below, Named}
+use Rattle.ci_machine_laws.proofs.Counts.{passing, passing_mapped, passing_implied, passing_new}
+use Rattle.ci_machine_laws.proofs.PutAll.{all_at, all_at_id, all_in_place, at_or}
+use Rattle.ci_machine_steps.proofs.Behind.{nat_less, in_either, has_left, has_right, put_behind, put_all, has_all}
 use Rattle.ci_machine_steps.proofs.Created.{created_state, new_length, IsNew, new_are, new_numbered, needs_are, pairs_inside, jobs_behind}
 use Rattle.ci_machine_laws.proofs.Acts.{IsAct}
 use Rattle.ci_machine_laws.proofs.EachPlan.{given_in}
@@ -27,14 +28,8 @@ has_self cmp x (z ∷ zs) = cond_both (is_lt (cmp z x)) (z ∷ placed cmp x zs) 
 abbrev pub Kept : {A : Type 0} → (A → A) → List A → List A → Type 0
 Kept {A} f xs ys = (x : A) → Has x xs → (y : A) × (Has y ys × (f y ≡ f x))
 
-pub kept : {A : Type 0} (f : A → A) (xs ys : List A) → ys ≡ xs → Kept f xs ys
+kept : {A : Type 0} (f : A → A) (xs ys : List A) → ys ≡ xs → Kept f xs ys
 kept f xs ys e x k = (x, (subst (Has x) (sym e) k, refl))
-
-pub kept_through : {A : Type 0} (f : A → A) (xs ys zs : List A) → Kept f xs ys → Kept f ys zs → Kept f xs zs
-kept_through f xs ys zs a b x k =
-    let y = a x k in
-    let z = b y.0 y.1.0 in
-    (z.0, (z.1.0, z.1.1 ∙ y.1.1))
 
 below_put : {A : Type 0} (id : A → ℕ) (x : A) (n m : ℕ) (xs : List A) → Below id n xs → n ≤ m → id x < m → Below id m (put (λ a b. nat_cmp (id a) (id b)) x xs)
 below_put id x n m xs b l lt y k =
@@ -43,21 +38,7 @@ below_put id x n m xs b l lt y k =
 -- a record whose number is new
 kept_new : {A : Type 0} (id : A → ℕ) (f : A → A) (x : A) (n : ℕ) (xs : List A) → Below id n xs → n ≤ id x → Kept f xs (put (λ a b. nat_cmp (id a) (id b)) x xs)
 kept_new id f x n xs b l y k =
-    let cmp = λ (v w : _). nat_cmp (id v) (id w) in
-    ⊎_elim
-    (λ e. absurd (let q : id y ≡ id x = same (id y) (id x) e in let z : id y < n = b y k in omega arith))
-    (λ e. (y, (put_has cmp x y xs k (ap not e), refl)))
-    (cases_Bool (is_eq (nat_cmp (id y) (id x))))
-
--- a record in place of one of its number
-kept_put : {A : Type 0} (id : A → ℕ) (f : A → A) (x a : A) (xs : List A) → Rising id 0 xs → Has a xs → id x ≡ id a → f x ≡ f a
-    → Kept f xs (put (λ v w. nat_cmp (id v) (id w)) x xs)
-kept_put id f x a xs r has same_id good y k =
-    let cmp = λ (v w : _). nat_cmp (id v) (id w) in
-    ⊎_elim
-    (λ e. let q : y ≡ a = one_at id y a 0 xs r k has (same (id y) (id x) e ∙ same_id) in (x, (has_self cmp x (others cmp x xs), good ∙ ap f (sym q))))
-    (λ e. (y, (put_has cmp x y xs k (ap not e), refl)))
-    (cases_Bool (is_eq (nat_cmp (id y) (id x))))
+    (y, (subst (Has y) (sym (put_behind (λ v w. nat_cmp (id v) (id w)) x xs (λ z m. nat_less (id z) (id x) (omega (arith, b z m))))) (has_left y xs (x ∷ []) k), refl))
 
 -- a table in the next state: what was there is there, and numbers that are still to come are new
 abbrev Table : {A : Type 0} → (A → ℕ) → (A → A) → List A → List A → ℕ → Type 0
@@ -69,42 +50,37 @@ same_table id f xs next r b = (kept f xs xs refl, r, b)
 new_in : {A : Type 0} (id : A → ℕ) (f : A → A) (x : A) (xs : List A) → Rising id 0 xs → Below id (id x) xs → Table id f xs (put (λ a b. nat_cmp (id a) (id b)) x xs) (id x + 1)
 new_in id f x xs r b = (kept_new id f x (id x) xs b (omega arith), rising_put id x 0 xs r (omega arith), below_put id x (id x) (id x + 1) xs b (omega arith) (omega arith))
 
-put_in : {A : Type 0} (id : A → ℕ) (f : A → A) (x a : A) (xs : List A) (next : ℕ) → Rising id 0 xs → Below id next xs → Has a xs → id x ≡ id a → f x ≡ f a → Table id f xs (put (λ v w. nat_cmp (id v) (id w)) x xs) next
-put_in id f x a xs next r b has same_id good =
-    let below : id a < next = b a has in
-    (kept_put id f x a xs r has same_id good, rising_put id x 0 xs r (omega arith), below_put id x next next xs b (omega arith) (omega arith))
+of_one : {A : Type 0} (f : A → A) (x a : A) (xs : List A) → Has a xs → f x ≡ f a → (w : A) → Has w (x ∷ []) → (b : A) × (Has b xs × (f w ≡ f b))
+of_one f x a xs has good w k = ⊎_elim (λ e. (a, (has, ap f e ∙ good))) (λ m. absurd m) k
 
 -- records that come in the places of ones that are the same for good
-module _ {A : Type 0} (id : A → ℕ) (f : A → A) (same_id : (x y : A) → f x ≡ f y → id x ≡ id y) where
-  abbrev by_id : A → A → Ordering
-  by_id a b = nat_cmp (id a) (id b)
+module _ {A : Type 0} (id : A → ℕ) (f : A → A) (same_id : (x y : A) → f x ≡ f y → id x ≡ id y) (rs xs : List A) (r : Rising id 0 xs) (old : (w : A) → Has w rs → (a : A) × (Has a xs × (f w ≡ f a))) where
+  in_places : put_all (λ a b. nat_cmp (id a) (id b)) rs xs ≡ map (all_at id rs) xs
+  in_places = all_in_place id rs xs r (λ w k. let v = old w k in (v.0, (v.1.0, sym (same_id w v.0 v.1.1))))
 
-  abbrev Old : List A → A → Type 0
-  Old xs r = (a : A) × (Has a xs × (f r ≡ f a))
+  good_at : (x : A) → Has x xs → f (all_at id rs x) ≡ f x
+  good_at x k =
+      ⊎_elim
+      (λ m. let v = old (all_at id rs x) m in v.1.1 ∙ ap f (one_at id v.0 x 0 xs r v.1.0 k (sym (same_id (all_at id rs x) v.0 v.1.1) ∙ all_at_id id rs x)))
+      (λ w. ap f w.0)
+      (at_or id rs x)
 
-  one_kept : (x : A) (xs : List A) → Rising id 0 xs → Old xs x → Kept f xs (put by_id x xs)
-  one_kept x xs r old = kept_put id f x old.0 xs r old.1.0 (same_id x old.0 old.1.1) old.1.1
+  kept_all : Kept f xs (put_all (λ a b. nat_cmp (id a) (id b)) rs xs)
+  kept_all x k = (all_at id rs x, (subst (Has (all_at id rs x)) (sym in_places) (has_map (all_at id rs) x xs k), good_at x k))
 
-  still_old : (x w : A) (xs : List A) → Rising id 0 xs → Old xs x → Old xs w → Old (put by_id x xs) w
-  still_old x w xs r old other = let y = one_kept x xs r old other.0 other.1.0 in (y.0, (y.1.0, other.1.1 ∙ sym y.1.1))
+  passing_all : (p : A → Bool) → ((x y : A) → f x ≡ f y → p x ≡ p y) → passing p xs ≤ passing p (put_all (λ a b. nat_cmp (id a) (id b)) rs xs)
+  passing_all p alike =
+      rw (in_places, passing_mapped p (all_at id rs) xs) (passing_implied (λ x. p (all_at id rs x)) p xs (λ x k e. alike (all_at id rs x) x (good_at x k) ∙ e))
 
-  kept_all : (rs xs : List A) → Rising id 0 xs → ((w : A) → Has w rs → Old xs w) → Kept f xs (put_all (λ a b. nat_cmp (id a) (id b)) rs xs)
-  kept_all [] xs r old = kept f xs xs refl
-  kept_all (x ∷ rs) xs r old =
-      let first = old x (inl refl) in
-      let ys = put by_id x xs in
-      kept_through f xs ys (put_all by_id rs ys) (one_kept x xs r first) (kept_all rs ys (rising_put id x 0 xs r (omega arith)) (λ w k. still_old x w xs r first (old w (inr k))))
-
-  passing_all : (p : A → Bool) → ((x y : A) → f x ≡ f y → p x ≡ p y) → (rs xs : List A) → Rising id 0 xs → ((w : A) → Has w rs → Old xs w)
-      → length (filter p xs) ≤ length (filter p (put_all (λ a b. nat_cmp (id a) (id b)) rs xs))
-  passing_all p alike [] xs r old = omega arith
-  passing_all p alike (x ∷ rs) xs r old =
-      let first = old x (inl refl) in
-      let ys = put by_id x xs in
-      let one : length (filter p xs) ≤ length (filter p ys) = passing_put id p x first.0 xs r first.1.0 (same_id x first.0 first.1.1) (alike x first.0 first.1.1) in
-      let rest : length (filter p ys) ≤ length (filter p (put_all by_id rs ys))
-      = passing_all p alike rs ys (rising_put id x 0 xs r (omega arith)) (λ w k. still_old x w xs r first (old w (inr k))) in
-      omega arith
+put_in : {A : Type 0} (id : A → ℕ) (f : A → A) (same_id : (x y : A) → f x ≡ f y → id x ≡ id y) (x a : A) (xs : List A) (next : ℕ) → Rising id 0 xs → Below id next xs → Has a xs → f x ≡ f a
+    → Table id f xs (put (λ v w. nat_cmp (id v) (id w)) x xs) next
+put_in id f same_id x a xs next r b has good =
+    let below : id a < next = b a has in
+    let same : id x ≡ id a = same_id x a good in (
+      kept_all id f same_id (x ∷ []) xs r (of_one f x a xs has good),
+      rising_put id x 0 xs r (omega arith),
+      below_put id x next next xs b (omega arith) (omega arith),
+    )
 
 named_kept : {A : Type 0} (id : A → ℕ) (f : A → A) (n : ℕ) (xs ys : List A) → ((x y : A) → f y ≡ f x → id y ≡ id x) → Kept f xs ys → Named id n xs → Named id n ys
 named_kept id f n xs ys g k w =
@@ -276,13 +252,13 @@ put_attempt : (s : State) (x a : Attempt) → Linked s → Rising (λ (b : Attem
 put_attempt s x a i r has good =
     let ids = λ (b : Attempt). b.id in
     record {
-      stay = kept_put ids attempt_for_good x a s.attempts r has (ap ids good) good;
+      stay = kept_all ids attempt_for_good (λ v w. ap ids) (x ∷ []) s.attempts r (of_one attempt_for_good x a s.attempts has good);
       linked = λ b k. ⊎_elim
           (λ e. let same_job : a.job ≡ b.job = sym (ap (λ (c : Attempt). c.job) e ∙ ap (λ (c : Attempt). c.job) good) in
           let same_runner : a.runner ≡ b.runner = sym (ap (λ (c : Attempt). c.runner) e ∙ ap (λ (c : Attempt). c.runner) good) in
           inr (subst (λ n. Named (λ (j : Job). j.id) n s.jobs) same_job (i.attempt_job a has), subst (λ n. Named (λ (q : Runner). q.id) n s.runners) same_runner (i.attempt_runner a has)))
           (λ m. inl m) (has_put attempt_cmp x b s.attempts k);
-      counts = λ n. passing_put ids (λ (b : Attempt). b.job == n) x a s.attempts r has (ap ids good) (ap (λ (b : Attempt). b.job == n) good);
+      counts = λ n. passing_all ids attempt_for_good (λ v w. ap ids) (x ∷ []) s.attempts r (of_one attempt_for_good x a s.attempts has good) (λ (b : Attempt). b.job == n) (λ v w. ap (λ (b : Attempt). b.job == n));
     }
 
 -- ---- a new pipeline
@@ -338,7 +314,7 @@ acts s changes act i jr r =
     let was_attempt : (a : Attempt) → Has a act.attempts → (b : Attempt) × (Has b s.attempts × (attempt_for_good a ≡ attempt_for_good b))
     = λ a k. let w = act.each_attempt a k in (w.old, (w.has, ap attempt_for_good w.is)) in
     let counts : (n : ℕ) → length (attempts_of s n) ≤ length (attempts_of t n)
-    = λ n. passing_all aids attempt_for_good (λ x y e. ap aids e) (λ (b : Attempt). b.job == n) (λ x y e. ap (λ (b : Attempt). b.job == n) e) act.attempts s.attempts r was_attempt in
+    = λ n. passing_all aids attempt_for_good (λ x y e. ap aids e) act.attempts s.attempts r was_attempt (λ (b : Attempt). b.job == n) (λ x y e. ap (λ (b : Attempt). b.job == n) e) in
     record {
       projects = same_projects s i;
       runners = same_runners s i;
@@ -389,8 +365,8 @@ goes s board e i jr r b = record {
   stays = λ _ _. inl rests;
   project = λ _ _ name seed. inl (with_projects s i _ _ (new_in (λ (p : Project). p.id) project_for_good _ s.projects i.projects_rise i.project_below));
   runner = λ _ _ new seed. inl (with_runners s i _ _ (new_in (λ (q : Runner). q.id) runner_for_good _ s.runners i.runners_rise i.runner_below));
-  paused = λ _ _ runner paused has. inl (with_runners s i _ _ (put_in (λ (q : Runner). q.id) runner_for_good _ runner s.runners s.next.runner i.runners_rise i.runner_below has refl refl));
-  file = λ _ _ project text has. inl (with_projects s i _ _ (put_in (λ (p : Project). p.id) project_for_good _ project s.projects s.next.project i.projects_rise i.project_below has refl refl));
+  paused = λ _ _ runner paused has. inl (with_runners s i _ _ (put_in (λ (q : Runner). q.id) runner_for_good (λ x y g. ap (λ (q : Runner). q.id) g) _ runner s.runners s.next.runner i.runners_rise i.runner_below has refl));
+  file = λ _ _ project text has. inl (with_projects s i _ _ (put_in (λ (p : Project). p.id) project_for_good (λ x y g. ap (λ (p : Project). p.id) g) _ project s.projects s.next.project i.projects_rise i.project_below has refl));
   variables = λ _ _ vs. inl rests;
   modes = λ _ _ new is ms. inl rests;
   pipeline = λ new now is project text laid claims rows asked has named file lays fits. inl (enters s new project (given_in s new) now text laid i has named lays);

@@ -1,5 +1,5 @@
 -- Many records put into a list in the order of its numbers.
-use Rattle.std.proofs.Common.{◌≡◌, ℕ, ◌+◌, ◌<◌, ◌≤◌, true, false, not, ◌==◌, if◌then◌else◌, List, [], ◌∷◌, map, nat_cmp, is_eq, is_lt, Ordering, refl, sym, ap, subst, ◌∙◌, inl}
+use Rattle.std.proofs.Common.{◌≡◌, ◌⊎◌, ℕ, ◌+◌, ◌<◌, ◌≤◌, true, false, not, ◌==◌, if◌then◌else◌, List, [], ◌∷◌, map, nat_cmp, is_eq, is_lt, Ordering, refl, sym, ap, subst, ◌∙◌, inl}
 use Rattle.std.proofs.Common.{inr, ⊎_elim, arith, eqb-true, eq-eqb, ne_eqb, map-id}
 use Rattle.std.proofs.lemmas.Bool.{cond_both, cond-true, cond-false, both_ways, cases_Bool, false_from_ne_true}
 use Rattle.ci_machine_steps.specs.Prelude.{placed, others, put}
@@ -93,23 +93,17 @@ module _ {A : Type 0} (id : A → ℕ) where
       (λ q m. let v = named q (inr m) in (at r v.0, (has_map (at r) v.0 xs v.1.0, at_id r v.0 ∙ v.1.1)))
       ∙ sym (map_twice (all_at rs) (at r) xs))
 
-  keeps : (rs : List A) (z : A) → ((r : A) → Has r rs → id r ≡ id z → r ≡ z) → all_at rs z ≡ z
-  keeps [] z h = refl
-  keeps (r ∷ rs) z h =
-      let same : at r z ≡ z = cond_both (id z == id r) r z (λ w. w ≡ z) (λ e. h r (inl refl) (sym (eqb-true (id z) (id r) e))) (λ _. refl) in
-      ap (all_at rs) same ∙ keeps rs z (λ q m. h q (inr m))
-
-  hits : (rs : List A) (x y : A) → Has x rs → id x ≡ id y → ((r : A) → Has r rs → id r ≡ id y → r ≡ x) → all_at rs y ≡ x
-  hits [] x y k e h = absurd k
-  hits (r ∷ rs) x y k e h =
+  -- what stands in y's place is one of the records, or y, whose number none of them has
+  pub at_or : (rs : List A) (y : A) → Has (all_at rs y) rs ⊎ ((all_at rs y ≡ y) × ((r : A) → Has r rs → id r ≡ id y → ⊥))
+  at_or [] y = inr (refl, λ r k. absurd k)
+  at_or (r ∷ rs) y =
       ⊎_elim
-      (λ t.
-      let is : r ≡ x = h r (inl refl) (sym (eqb-true (id y) (id r) t)) in
-      ap (all_at rs) (cond-true (id y == id r) r y t ∙ is) ∙ keeps rs x (λ q m f. h q (inr m) (f ∙ e)))
-      (λ f.
-      let there : Has x rs = ⊎_elim (λ q. absurd (both_ways (id y == id r) f (eq-eqb (id y) (id r) (sym (sym (ap id q) ∙ e))))) (λ m. m) k in
-      ap (all_at rs) (cond-false (id y == id r) r y f) ∙ hits rs x y there e (λ q m. h q (inr m)))
-      (cases_Bool (id y == id r))
+      (λ m. inl (inr m))
+      (λ w. ⊎_elim
+      (λ t. inl (inl (w.0 ∙ cond-true (id y == id r) r y t)))
+      (λ f. inr (w.0 ∙ cond-false (id y == id r) r y f, λ q k e. ⊎_elim (λ s. both_ways (id y == id r) f (eq-eqb (id y) (id r) (sym e ∙ ap id s))) (λ m. w.1 q m (e ∙ sym (at_id r y))) k))
+      (cases_Bool (id y == id r)))
+      (at_or rs (at r y))
 
   -- what is put is made of some of those that are there
   module _ (g : A → A) (same : (y : A) → id (g y) ≡ id y) (ms xs : List A) (rise : Rising id 0 xs) (within : (m : A) → Has m ms → Has m xs) where
@@ -120,10 +114,10 @@ module _ {A : Type 0} (id : A → ℕ) where
         (subst (λ (v : A). Has v ms) is w.1.0, ap g (sym is) ∙ w.1.1)
 
     pub changed_at : (y : A) → Has y ms → all_at (map g ms) y ≡ g y
-    changed_at y k = hits (map g ms) (g y) y (has_map g y ms k) (same y) (λ r m e. sym (made_of r y m (within y k) e).1)
+    changed_at y k = ⊎_elim (λ m. sym (made_of _ y m (within y k) (all_at_id (map g ms) y)).1) (λ w. absurd (w.1 (g y) (has_map g y ms k) (same y))) (at_or (map g ms) y)
 
     pub left_at : (y : A) → Has y xs → (Has y ms → ⊥) → all_at (map g ms) y ≡ y
-    left_at y k out = keeps (map g ms) y (λ r m e. absurd (out (made_of r y m k e).0))
+    left_at y k out = ⊎_elim (λ m. absurd (out (made_of _ y m k (all_at_id (map g ms) y)).0)) (λ w. w.0) (at_or (map g ms) y)
 
     pub made_in_place : put_all (λ a b. nat_cmp (id a) (id b)) (map g ms) xs ≡ map (all_at (map g ms)) xs
     made_in_place = all_in_place (map g ms) xs rise (λ r k. let w = map_has g r ms k in (w.0, (within w.0 w.1.0, sym (same w.0) ∙ ap id w.1.1)))

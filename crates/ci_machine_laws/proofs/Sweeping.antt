@@ -24,7 +24,7 @@ use Rattle.ci_machine_steps.proofs.Sound.{Sound, sound}
 use Rattle.ci_machine_laws.proofs.Acts.{cancellable_within, after_cancel}
 use Rattle.ci_machine_laws.proofs.AllLaws.{laws}
 use Rattle.ci_machine_laws.proofs.Altered.{altered, Alters, long_altered, graph_altered, facts_altered, attempts_altered, facts_kept, open_by, open_as_it_was}
-use Rattle.ci_machine_laws.proofs.Counts.{passing}
+use Rattle.ci_machine_laws.proofs.Counts.{passing, passing_mapped, passing_implied, passing_fewer}
 use Rattle.ci_machine_laws.proofs.Finished.{map_same}
 use Rattle.ci_machine_laws.proofs.Numbers.{sound_reached}
 use Rattle.ci_machine_laws.proofs.Bounded.{within_limit}
@@ -33,40 +33,7 @@ use Rattle.ci_machine_laws.proofs.Reached.{reached}
 use Rattle.ci_machine_laws.proofs.OneBoard.{OneAssignment, one_board, rows_with, rows_like, assembled, its_keys, its_rows}
 use Rattle.ci_machine_laws.proofs.PutAll.{map_twice, all_at, all_at_id, all_in_place, rising_mapped, changed_at, left_at, made_in_place}
 
--- ---- how many pass
-
-passing_mapped : {A : Type 0} (p : A → Bool) (f : A → A) (xs : List A) → passing p (map f xs) ≡ passing (λ x. p (f x)) xs
-passing_mapped p f [] = refl
-passing_mapped p f (x ∷ xs) =
-    cond_both (p (f x)) (f x ∷ filter p (map f xs)) (filter p (map f xs)) (λ l. length l ≡ passing (λ y. p (f y)) (x ∷ xs))
-    (λ e. ap suc (passing_mapped p f xs) ∙ sym (ap (λ (l : List _). length l) (cond-true (p (f x)) (x ∷ filter (λ y. p (f y)) xs) (filter (λ y. p (f y)) xs) e)))
-    (λ e. passing_mapped p f xs ∙ sym (ap (λ (l : List _). length l) (cond-false (p (f x)) (x ∷ filter (λ y. p (f y)) xs) (filter (λ y. p (f y)) xs) e)))
-
--- what passes the one test passes the other
-passing_implied : {A : Type 0} (p q : A → Bool) (xs : List A) → ((x : A) → Has x xs → q x ≡ true → p x ≡ true) → passing q xs ≤ passing p xs
-passing_implied p q [] h = omega arith
-passing_implied p q (x ∷ xs) h =
-    let rest = passing_implied p q xs (λ y k. h y (inr k)) in
-    cond_both (q x) (x ∷ filter q xs) (filter q xs) (λ l. length l ≤ passing p (x ∷ xs))
-    (λ e. rw (h x (inl refl) e) (omega arith))
-    (λ e. cond_both (p x) (x ∷ filter p xs) (filter p xs) (λ l. passing q xs ≤ length l) (λ _. omega arith) (λ _. omega arith))
-
--- and one of them doesn't any more
-passing_fewer : {A : Type 0} (p q : A → Bool) (xs : List A) → ((x : A) → Has x xs → q x ≡ true → p x ≡ true) → (x : A) → Has x xs → p x ≡ true → q x ≡ false → passing q xs + 1 ≤ passing p xs
-passing_fewer p q [] h x k e f = absurd k
-passing_fewer p q (z ∷ zs) h x k e f =
-    ⊎_elim
-    (λ s.
-    let rest = passing_implied p q zs (λ y m. h y (inr m)) in
-    let no_more : q z ≡ false = ap q (sym s) ∙ f in
-    let before : p z ≡ true = ap p (sym s) ∙ e in
-    rw no_more (rw before (omega arith)))
-    (λ m.
-    let rest = passing_fewer p q zs (λ y n. h y (inr n)) x m e f in
-    cond_both (q z) (z ∷ filter q zs) (filter q zs) (λ l. length l + 1 ≤ passing p (z ∷ zs))
-    (λ g. rw (h z (inl refl) g) (omega arith))
-    (λ g. cond_both (p z) (z ∷ filter p zs) (filter p zs) (λ l. passing q zs + 1 ≤ length l) (λ _. omega arith) (λ _. omega arith)))
-    k
+-- ---- how many there are
 
 unended_is : (s : State) (board : List BoardRow) → unended s board ≡ passing is_live s.attempts + passing (is_open_in s board) s.pipelines
 unended_is s board = ap (λ n. passing is_live s.attempts + n) (length-map (filter (is_open_in s board) s.pipelines) (λ (p : Pipeline). record { pipeline = p.id }))

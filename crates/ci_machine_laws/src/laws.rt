@@ -62,6 +62,7 @@ pub fn worked_examples()
 {}
 
 /// The rows with which the examples go on are those of their states.
+#[tactic(auto, using(crate::proofs::Computed::computed), unfolding(crate::proofs::Computed::digits, crate::proofs::Computed::hex_on_literals))]
 pub fn example_boards()
     ensures made { AreBoard with_pipeline (two_rows Status.Pending) }
     ensures granted { AreBoard with_attempt (two_rows Status.Running) }
@@ -187,7 +188,7 @@ pub fn trace_examples()
 
 /// A pipeline is cancelled: at once all its jobs that can be, with the live attempt of one, and not the one that was skipped.
 /// Where one job alone is cancelled, the one that waits for it is skipped.
-#[tactic(auto, unfolding(crate::proofs::Computed::digits, crate::proofs::Computed::serde_json_on_literals))]
+#[tactic(auto, using(crate::proofs::Computed::computed), unfolding(crate::proofs::Computed::digits, crate::proofs::Computed::serde_json_on_literals))]
 pub fn cancel_examples()
     ensures before { AreBoard four four_board }
     ensures all { Does four four_board (Request.CancelPipeline (pipeline_query 1 1 (codes "p"))) 1100 seed all_cancelled }
@@ -210,7 +211,7 @@ pub fn cancel_examples()
 {}
 
 /// A job that failed is tried again: those that were skipped since are taken back, and one that ran since stays.
-#[tactic(auto, unfolding(crate::proofs::Computed::digits, crate::proofs::Computed::serde_json_on_literals))]
+#[tactic(auto, using(crate::proofs::Computed::computed), unfolding(crate::proofs::Computed::digits, crate::proofs::Computed::serde_json_on_literals))]
 pub fn retry_examples()
     ensures before { AreBoard five five_board }
     ensures retried { Does five five_board (Request.RetryJob (query 1 1 (codes "p"))) 1100 seed first_retried }
@@ -220,7 +221,7 @@ pub fn retry_examples()
 {}
 
 /// A manual job is played, succeeds, and is tried again: it doesn't wait for a user then.
-#[tactic(auto, unfolding(crate::proofs::Computed::digits, crate::proofs::Computed::serde_json_on_literals))]
+#[tactic(auto, using(crate::proofs::Computed::computed), unfolding(crate::proofs::Computed::digits, crate::proofs::Computed::serde_json_on_literals))]
 pub fn play_examples()
     ensures before { AreBoard two two_board }
     ensures played { Does two two_board (Request.Play (query 1 1 (codes "p"))) 1100 seed hand_played }
@@ -234,7 +235,7 @@ pub fn play_examples()
 /// What an act on a job with a resource group answers is told of the state after it, and so is what is asked then. Three pipelines have a job each
 /// of one group, which takes the oldest first. The second waits for the first: it is cancelled, and waits no more. Where the first is cancelled,
 /// the second waits no more. The third succeeded: it is tried again, and waits for the first.
-#[tactic(auto, unfolding(crate::proofs::Computed::digits, crate::proofs::Computed::serde_json_on_literals))]
+#[tactic(auto, using(crate::proofs::Computed::computed), unfolding(crate::proofs::Computed::digits, crate::proofs::Computed::serde_json_on_literals))]
 pub fn shown_examples()
     ensures before { AreBoard oldest all_wait }
     ensures waits { reply_text (job_shown oldest all_wait (query 1 2 (codes "p"))) ≡ codes "{\"id\":2,\"name\":\"ship\",\"stage\":\"test\",\"status\":\"waiting_for_resource\"}" }
@@ -311,7 +312,7 @@ pub fn group_examples()
 /// goes first, or the oldest, and a mode of another project counts for nothing. Of two pipelines the newer one's job is pending while the older
 /// one's is created yet: by `oldest_first` it waits for that, and in no other mode; once both are pending the mode decides. The rows are those
 /// of the states, in every mode: no status depends on it. A mode is set, in the place of the one that was, and goes.
-#[tactic(auto, unfolding(crate::proofs::Computed::digits, crate::proofs::Computed::serde_json_on_literals))]
+#[tactic(auto, using(crate::proofs::Computed::computed), unfolding(crate::proofs::Computed::digits, crate::proofs::Computed::serde_json_on_literals))]
 pub fn mode_examples()
     ensures all_pending { AreBoard (three [] []) (third_is Status.Pending) }
     ensures third_runs { AreBoard (three [] (third_tried AttemptState.Live)) (third_is Status.Running) }
@@ -351,7 +352,7 @@ pub fn mode_examples()
 /// Two finished pipelines, made at 1000 and at 90000: of those made before the second day the first goes, with its jobs, their variables, what
 /// they wait for, their attempts and their traces, and then there is none. No next number changes. Of two that may go the one of least
 /// number goes; one that was made at the very moment stays, and so does one with a job that runs or is pending.
-#[tactic(auto, unfolding(crate::proofs::Computed::digits, crate::proofs::Computed::serde_json_on_literals))]
+#[tactic(auto, using(crate::proofs::Computed::computed), unfolding(crate::proofs::Computed::digits, crate::proofs::Computed::serde_json_on_literals))]
 pub fn prune_examples()
     ensures before { AreBoard both_done both_board }
     ensures pruned { Does both_done both_board (Request.PruneOne second_day) 90060 seed first_pruned }
@@ -395,6 +396,7 @@ pub fn a_prune_leaves_the_rest()
 /// sweep of the history ended the due attempt of least number; where there was none, it cancelled the redundant pipeline of least number, or
 /// there was none either. Each request to prune pruned the finished pipeline of least number that was made before its moment, or there
 /// was none; and each grant gave the variables of its job in the order of their keys.
+#[tactic(auto, using(crate::proofs::AllLaws::laws))]
 pub fn laws_of_each_reached_state()
     ensures { (h : List Past) (s : State) → Leads h s → Laws h s }
 {}
@@ -407,6 +409,7 @@ pub fn sound_of_each_reached_state()
 
 /// Where each line of an earlier program was a step of this machine, or left the state as it was, as a refusal does that this machine wouldn't
 /// give, the state is reached: some of the lines, in their order, are a history that leads to it.
+#[tactic(auto, using(crate::proofs::LeftOut::without_idle))]
 pub fn a_line_that_changes_nothing_can_be_left_out()
     ensures { (lines : List Past) (s : State) → LeadsOrStays lines s → (h : List Past) × AreSome h lines × Leads h s }
 {}
@@ -414,6 +417,7 @@ pub fn a_line_that_changes_nothing_can_be_left_out()
 /// In each state that a history leads to, each job that waits for another is of the other's pipeline, and no job waits for
 /// itself, by way of whatever others. So the statuses of its jobs are one assignment, and there is one list of rows of them: what is
 /// said of some board is said of this one. In the state before the grant of an attempt its job had the status pending.
+#[tactic(auto, using(crate::proofs::OneBoard::no_circle, crate::proofs::OneBoard::one_board, crate::proofs::OneBoard::all_pending))]
 pub fn one_board_of_each_reached_state()
     ensures circles { (h : List Past) (s : State) → Leads h s → HasNoCircle s }
     ensures board { (h : List Past) (s : State) → Leads h s → HasOneBoard s }

@@ -10,6 +10,7 @@ use ci_machine::reply::Code;
 use ci_machine::request::{Request, Subject};
 
 /// A read changes nothing.
+#[tactic(auto, using(crate::proofs::Newest::read_keeps))]
 pub fn a_read_changes_nothing()
     ensures { (s t : State) (query : ReadQuery) (now : ℕ) (seed : Seed) (a : Answer) → Step s (Event.Request (Request.Read query)) now seed a t → t ≡ s }
 {}
@@ -31,7 +32,7 @@ pub fn the_groups_of_a_project_are_told()
 /// What is read of two projects, of which one has two pipelines: the project, its pipelines, newest first, and its resource groups by the bytes of
 /// their keys: one has a mode and is held by none, one is held and has none, and one has both. What is another project's isn't told,
 /// nor the oldest of a hundred and one pipelines.
-#[tactic(auto, unfolding(crate::proofs::Computed::digits, crate::proofs::Computed::serde_json_on_literals, crate::proofs::Computed::day_at, crate::proofs::Computed::stamp_text))]
+#[tactic(auto, using(crate::proofs::Computed::computed), unfolding(crate::proofs::Computed::digits, crate::proofs::Computed::serde_json_on_literals, crate::proofs::Computed::day_at, crate::proofs::Computed::stamp_text))]
 pub fn read_examples()
     ensures board { AreBoard two_projects two_projects_board }
     ensures step { (query : ReadQuery) (now : ℕ) (seed : Seed) → Does two_projects two_projects_board (Request.Read query) now seed (read_by query) }

@@ -1,20 +1,11 @@
 use Rattle.std.proofs.Common.{refl}
 use Rattle.ci_machine_laws.specs.Examples.{after}
-use Rattle.ci_machine_laws.specs.ActExamples.{board_from, four, four_board, all_cancelled, cancelled_rows, run_cancelled, run_cancelled_rows}
+use Rattle.ci_machine_laws.specs.ActExamples.{board_from, four, all_cancelled, cancelled_rows, run_cancelled, run_cancelled_rows}
 use Rattle.ci_machine_laws.proofs.Computed.{computed}
 use Rattle.ci_machine_laws.proofs.laws.cancel_examples.Goals as goal
 
-pub returns-clause-before : goal.returns-clause-before
-returns-clause-before c = computed four four_board refl refl
-
-pub returns-clause-board : goal.returns-clause-board
-returns-clause-board c = computed (after all_cancelled four) (board_from 1 cancelled_rows) refl refl
-
 pub returns-clause-all : goal.returns-clause-all
-returns-clause-all c = (board_from 1 cancelled_rows, returns-clause-board c, refl)
-
-pub returns-clause-one_board : goal.returns-clause-one_board
-returns-clause-one_board c = computed (after run_cancelled four) (board_from 1 run_cancelled_rows) refl refl
+returns-clause-all c = (board_from 1 cancelled_rows, computed (after all_cancelled four) (board_from 1 cancelled_rows) refl refl, refl)
 
 pub returns-clause-one : goal.returns-clause-one
-returns-clause-one c = (board_from 1 run_cancelled_rows, returns-clause-one_board c, refl)
+returns-clause-one c = (board_from 1 run_cancelled_rows, computed (after run_cancelled four) (board_from 1 run_cancelled_rows) refl refl, refl)
