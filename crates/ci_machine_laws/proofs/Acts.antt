@@ -1,11 +1,8 @@
 -- What a user does to jobs: which records it puts, and which state it leads to.
-use Rattle.std.proofs.Common.{◌≡◌, ◌⊎◌, ℕ, ◌==◌, true, false, List, [], ◌∷◌, ◌++◌, length, map, filter, refl, sym, ap, ◌∙◌, inl, inr, ⊎_elim}
-use Rattle.std.proofs.lemmas.Bool.{and_parts}
+use Rattle.ci_machine_laws.proofs.Prelude.{◌≡◌, ◌⊎◌, ℕ, ◌==◌, true, false, List, [], ◌∷◌, ◌++◌, length, map, filter, refl, sym, ap, ◌∙◌, inl, inr, ⊎_elim, and_parts, Has}
+use Rattle.ci_machine_laws.proofs.Prelude.{has_filter, map_has, put_all, has_all, applied_append}
 use Rattle.ci_machine_steps.specs.Prelude.{Job, Attempt, BoardRow, RowChange, Put, Record, State, put, job_cmp, attempt_cmp, applied, jobs_of, attempts_of, status_for, is_live}
 use Rattle.ci_machine_steps.specs.Prelude.{play, retry, is_cancellable, cancellable_jobs, is_lease_on, cancelled_job, cancelled_attempt, cancel, job_for_good}
-use Rattle.ci_machine.proofs.Keyed.{Has, has_filter, map_has}
-use Rattle.ci_machine_steps.proofs.Behind.{put_all, has_all}
-use Rattle.ci_machine_steps.proofs.Created.{applied_append}
 use Rattle.ci_machine_laws.proofs.PutAll.{map_twice}
 
 -- the job was there, with what it has for good, and sets aside what it did, or all its attempts

@@ -1,9 +1,9 @@
 -- All that holds of every state that a history leads to.
-use Rattle.std.proofs.Common.{◌≡◌, ◌⊎◌, true, false, List, [], ◌∷◌, map, Contains, refl, sym, subst, inl, inr, ⊎_elim, arith}
-use Rattle.ci_machine_steps.specs.Prelude.{BoardRow, Pipeline, Job, Attempt, State, empty, AreBoard, is_live, Past, Leads, grants, WasGranted, IsTraced, WasPruned, WentWithItsJob}
-use Rattle.ci_machine_steps.specs.Prelude.{EndsStay, Stay, project_for_good, runner_for_good, job_for_good, attempt_for_good, Stays, IsSweptBy, IsPrunedBy, is_grant, GivesInOrder}
-use Rattle.ci_machine_steps.specs.Prelude.{Laws}
-use Rattle.ci_machine.proofs.Keyed.{Has, has_filter, All-from_has, contains_from_has, has_from_contains, has_map}
+use Rattle.ci_machine_laws.proofs.Prelude.{◌≡◌, ◌⊎◌, true, false, List, [], ◌∷◌, map, Contains, refl, sym, subst, inl, inr, ⊎_elim, arith, Has, has_filter, All-from_has}
+use Rattle.ci_machine_laws.proofs.Prelude.{contains_from_has, has_from_contains, has_map}
+use Rattle.ci_machine_steps.specs.Prelude.{BoardRow, Pipeline, Job, Attempt, State, empty, AreBoard, is_live, Past, Leads, grants, WasGranted, IsTraced, WasPruned}
+use Rattle.ci_machine_steps.specs.Prelude.{WentWithItsJob, EndsStay, Stay, project_for_good, runner_for_good, job_for_good, attempt_for_good, Stays, IsSweptBy, IsPrunedBy}
+use Rattle.ci_machine_steps.specs.Prelude.{is_grant, GivesInOrder, Laws}
 use Rattle.ci_machine_laws.proofs.Included.{was_included}
 use Rattle.ci_machine_laws.proofs.Grants.{WasGiven, one_lease}
 use Rattle.ci_machine_laws.proofs.Reached.{reached}

@@ -1,15 +1,10 @@
 -- A state in which jobs and attempts stand otherwise, each in its place: the graphs of its pipelines are the same, and so is the status of each
 -- pipeline whose jobs have the facts that they had.
-use Rattle.std.proofs.Common.{◌≡◌, ℕ, zero, suc, ◌-◌, ◌<◌, Bool, ◌==◌, ◌||◌, not, if◌then◌else◌, List, [], ◌∷◌, length, map, filter, option_map, None, refl, sym, ap, subst, ◌∙◌}
-use Rattle.std.proofs.Common.{inl, inr, arith, map-id}
-use Rattle.std.specs.List.{last_or}
-use Rattle.std.proofs.lemmas.Bool.{cond_both, cond-true, cond-false}
-use Rattle.std.proofs.lemmas.List.{length-map}
-use Rattle.ci_machine.specs.Prelude.{Part, JobGraph}
+use Rattle.ci_machine_laws.proofs.Prelude.{◌≡◌, ℕ, zero, suc, ◌-◌, ◌<◌, Bool, ◌==◌, ◌||◌, not, if◌then◌else◌, List, [], ◌∷◌, length, map, filter, option_map, None, refl, sym, ap}
+use Rattle.ci_machine_laws.proofs.Prelude.{subst, ◌∙◌, inl, inr, arith, map-id, last_or, cond_both, cond-true, cond-false, length-map, Part, JobGraph, Has, has_filter}
 use Rattle.ci_machine_steps.specs.Prelude.{Facts, Status, statuses, facts_at, IsAssignment, is_status, some_job, has_status, has_strict, has_attempt, pipeline_status, Attempt}
-use Rattle.ci_machine_steps.specs.Prelude.{BoardRow, Job, JobOptions, Pipeline, State, jobs_of, numbers_of, attempts_of, pairs_among, predecessors_by, graph_of, facts_in, facts_of}
-use Rattle.ci_machine_steps.specs.Prelude.{rows_of, AreBoard, is_open_in, is_unfinished, HasOneBoard}
-use Rattle.ci_machine.proofs.Keyed.{Has, has_filter}
+use Rattle.ci_machine_steps.specs.Prelude.{BoardRow, Job, JobOptions, Pipeline, State, jobs_of, numbers_of, attempts_of, pairs_among, predecessors_by, graph_of, facts_in}
+use Rattle.ci_machine_steps.specs.Prelude.{facts_of, rows_of, AreBoard, is_open_in, is_unfinished, HasOneBoard}
 use Rattle.ci_machine_laws.proofs.PutAll.{map_twice}
 use Rattle.ci_machine_laws.proofs.Finished.{map_same}
 

@@ -1,11 +1,6 @@
 -- The numbers of jobs stay within their limit, in every state that a history leads to.
-use Rattle.std.proofs.Common.{◌≡◌, ◌+◌, ◌-◌, ◌≤◌, Bool, true, false, ◌||◌, nat_lt, List, [], ◌∷◌, length, sym, subst, arith}
-use Rattle.std.proofs.lemmas.Bool.{false≢true, ltb-false}
-use Rattle.ci_machine_steps.specs.Prelude.{MAX_NUMBER, BoardRow}
-use Rattle.ci_machine_steps.specs.Prelude.{Event}
-use Rattle.ci_machine_steps.specs.Prelude.{State}
-use Rattle.ci_machine_steps.specs.Prelude.{Past, Leads}
-use Rattle.ci_machine_steps.proofs.Created.{new_length}
+use Rattle.ci_machine_laws.proofs.Prelude.{◌≡◌, ◌+◌, ◌-◌, ◌≤◌, Bool, true, false, ◌||◌, nat_lt, List, [], ◌∷◌, length, sym, subst, arith, false≢true, ltb-false, new_length}
+use Rattle.ci_machine_steps.specs.Prelude.{MAX_NUMBER, BoardRow, Event, State, Past, Leads}
 use Rattle.ci_machine_laws.proofs.EachNext.{EachNext, next_is}
 use Rattle.ci_machine_laws.proofs.Reached.{reached}
 

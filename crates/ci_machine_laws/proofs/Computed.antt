@@ -1,17 +1,12 @@
 -- Worked examples that are computed: what unfolds for them, and boards, whose rows are right if they come out of themselves.
-use Rattle.std.proofs.Common.{◌≡◌, ℕ, ◌<◌, ◌==◌, List, [], ◌∷◌, length, map, count_by, sym, ap, subst, ◌∙◌, inl, inr, arith, eqb-true, refl}
-use Rattle.std.specs.List.{range_with_len}
-use Rattle.std.proofs.lemmas.List.{length-map}
-use Rattle.std.proofs.lemmas.List.FromFn.{get_or-map-range_with_len}
+use Rattle.ci_machine_laws.proofs.Prelude.{◌≡◌, ℕ, ◌<◌, ◌==◌, List, [], ◌∷◌, length, map, count_by, sym, ap, subst, ◌∙◌, inl, inr, arith, eqb-true, refl, range_with_len}
+use Rattle.ci_machine_laws.proofs.Prelude.{length-map, get_or-map-range_with_len, JobGraph, part_at, row_at, Has, has_filter}
+use Rattle.ci_machine_steps.specs.Prelude.{Facts, Row, Effect, is_open, is_fail, is_bar, status_of_effects, facts_at, statuses, no_row, effects_of, Job, BoardRow, State, jobs_of}
+use Rattle.ci_machine_steps.specs.Prelude.{graph_of, facts_of, rows_of, AreBoard}
 unfoldable pub use Rattle.std.specs.Fmt.{digits}
 unfoldable pub use Rattle.serde_json.proofs.OnLiterals.{serde_json_on_literals}
 unfoldable pub use Rattle.hex.proofs.OnLiterals.{hex_on_literals}
 unfoldable pub use Rattle.ci_machine_steps.specs.Prelude.{day_at, stamp_text}
-use Rattle.ci_machine.specs.Prelude.{JobGraph, part_at}
-use Rattle.ci_machine_steps.specs.Prelude.{Facts, Row, Effect, is_open, is_fail, is_bar, status_of_effects, facts_at, statuses, no_row, effects_of, Job, BoardRow, State, jobs_of}
-use Rattle.ci_machine_steps.specs.Prelude.{graph_of, facts_of, rows_of, AreBoard}
-use Rattle.ci_board.specs.Prelude.{row_at}
-use Rattle.ci_machine.proofs.Keyed.{Has, has_filter}
 
 first_of_some : {A : Type 0} (xs : List A) → 0 < length xs → (x : A) × Has x xs
 first_of_some [] l = absurd (omega arith)

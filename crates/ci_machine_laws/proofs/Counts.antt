@@ -1,11 +1,7 @@
 -- How many records of a list pass a test.
-use Rattle.std.proofs.Common.{◌≡◌, ℕ, suc, ◌+◌, ◌≤◌, Bool, true, false, List, [], ◌∷◌, length, map, filter, nat_cmp, sym, ap, subst, ◌∙◌, inl, inr, ⊎_elim, refl, arith}
-use Rattle.std.proofs.lemmas.Bool.{cond_both, cond-true, cond-false}
-use Rattle.std.proofs.lemmas.List.{length-append}
-use Rattle.std.proofs.lemmas.List.Elements.{filter-append}
+use Rattle.ci_machine_laws.proofs.Prelude.{◌≡◌, ℕ, suc, ◌+◌, ◌≤◌, Bool, true, false, List, [], ◌∷◌, length, map, filter, nat_cmp, sym, ap, ◌∙◌, inl, inr, ⊎_elim, refl, arith}
+use Rattle.ci_machine_laws.proofs.Prelude.{cond_both, cond-true, cond-false, length-append, filter-append, Has, Below, nat_less, put_behind}
 use Rattle.ci_machine_steps.specs.Prelude.{put}
-use Rattle.ci_machine.proofs.Keyed.{Has, Below}
-use Rattle.ci_machine_steps.proofs.Behind.{nat_less, put_behind}
 
 -- how many of a list pass
 abbrev pub passing : {A : Type 0} → (A → Bool) → List A → ℕ

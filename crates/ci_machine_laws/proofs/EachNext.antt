@@ -1,18 +1,14 @@
 -- What holds of each state that an event leads to, by what the step changes.
-use Rattle.std.proofs.Common.{◌≡◌, ℕ, ◌==◌, ◌&&◌, if◌then◌else◌, ◌∙◌, Bool, true, false, List, [], ◌∷◌, length, Option, None, Some, Ok, refl, sym, ap, subst}
-use Rattle.std.proofs.lemmas.Bool.{cond_both}
+use Rattle.ci_machine_laws.proofs.Prelude.{◌≡◌, ℕ, ◌==◌, ◌&&◌, if◌then◌else◌, ◌∙◌, Bool, true, false, List, [], ◌∷◌, length, Option, None, Some, Ok, refl, sym, ap, subst}
+use Rattle.ci_machine_laws.proofs.Prelude.{cond_both, Failed, Has, Rising, has_filter, has_find, find-map, put_all, created_state, after_creation, pruned_state}
 use Rattle.ci_machine_steps.specs.Prelude.{BoardRow, Project, Runner, Pipeline, Job, QueuedJob, JobVariable, Variable, Attempt, AttemptState, Lease, GroupMode, Claim, Row}
-use Rattle.ci_machine_steps.specs.Prelude.{NewRunner, NewMode, NewPipeline, Request, SetMode, CreatePipeline, PruneOne, Event, Seed, Answer, Swept, RowChange, Put, Record, State, applied, put}
-use Rattle.ci_machine_steps.specs.Prelude.{job_cmp, attempt_cmp, is_live, is_over, cause_of, first_due, made_project, made_runner, runner_paused, granted, ended, Layout, IsLaidOut, lacks_numbers}
-use Rattle.ci_machine_steps.specs.Prelude.{creation, pipeline_created, cancellable_jobs, cancel, sweep, prunable_in, pruned_reply, without_pipeline, is_pending, queued, resource_free, groups_in}
-use Rattle.ci_machine_steps.specs.Prelude.{Happens, lease_of, leases, live_attempts, redundant_in, cancellable_in}
-use Rattle.ci_machine_steps.specs.Prelude.{AskJob, AppendTrace, TracePart, Reply, Code, M14, M16, refusal, refused, faulted, unleased, not_accepted, grown, chosen, queue, runner_with, is_grant, is_created, accepted_bytes, is_accepted}
-use Rattle.ci_machine_steps.specs.Prelude.{LeaseFault, NotLive, LeaseOver, PieceFault, Unleased, WrongOffset, TraceFull}
-use Rattle.ci_machine.specs.Prelude.{Failed}
-use Rattle.ci_machine.proofs.Keyed.{Has, Rising, has_filter, has_find, find-map}
-use Rattle.ci_machine_steps.proofs.Behind.{put_all}
-use Rattle.ci_machine_steps.proofs.Created.{created_state, after_creation}
-use Rattle.ci_machine_steps.proofs.Pruned.{pruned_state}
+use Rattle.ci_machine_steps.specs.Prelude.{NewRunner, NewMode, NewPipeline, Request, SetMode, CreatePipeline, PruneOne, Event, Seed, Answer, Swept, RowChange, Put, Record, State}
+use Rattle.ci_machine_steps.specs.Prelude.{applied, put, job_cmp, attempt_cmp, is_live, is_over, cause_of, first_due, made_project, made_runner, runner_paused, granted, ended}
+use Rattle.ci_machine_steps.specs.Prelude.{Layout, IsLaidOut, lacks_numbers, creation, pipeline_created, cancellable_jobs, cancel, sweep, prunable_in, pruned_reply}
+use Rattle.ci_machine_steps.specs.Prelude.{without_pipeline, is_pending, queued, resource_free, groups_in, Happens, lease_of, leases, live_attempts, redundant_in, cancellable_in}
+use Rattle.ci_machine_steps.specs.Prelude.{AskJob, AppendTrace, TracePart, Reply, Code, M14, M16, refusal, refused, faulted, unleased, not_accepted, grown, chosen, queue}
+use Rattle.ci_machine_steps.specs.Prelude.{runner_with, is_grant, is_created, accepted_bytes, is_accepted, LeaseFault, NotLive, LeaseOver, PieceFault, Unleased, WrongOffset}
+use Rattle.ci_machine_steps.specs.Prelude.{TraceFull}
 use Rattle.ci_machine_laws.proofs.Acts.{IsAct, cancels, cancellable_within, after_act}
 use Rattle.ci_machine_laws.proofs.EachPlan.{Each, IsMachineCode, does, of_asked, given_in}
 

@@ -1,31 +1,28 @@
 -- What holds of each plan: a refusal changes nothing, and the machine answers neither M16 nor M17.
-use Rattle.std.proofs.Common.{◌≡◌, ℕ, ◌==◌, Bool, List, [], length, not, nat_lt, true, false, Option, None, Some, option_map, Result, Ok, Err, ◌∷◌, refl, sym, ap, subst, ◌∙◌, ⊎_elim, eqb-true}
-use Rattle.std.specs.Str.{bytes_eq}
-use Rattle.std.proofs.lemmas.Bool.{cond_both, and_parts, false≢true}
+use Rattle.ci_machine_laws.proofs.Prelude.{◌≡◌, ℕ, ◌==◌, Bool, List, [], length, not, nat_lt, true, false, Option, None, Some, option_map, Result, Ok, Err, ◌∷◌, refl, sym, ap}
+use Rattle.ci_machine_laws.proofs.Prelude.{subst, ◌∙◌, ⊎_elim, eqb-true, bytes_eq, cond_both, and_parts, false≢true, Config, MAX_VARIABLES, MAX_TAGS, Given, Has, has_filter}
+use Rattle.ci_machine_laws.proofs.Prelude.{has_find, find-map}
 use Rattle.ci_machine_steps.specs.Prelude.{Status, BoardRow, Project, Pipeline, Job, Attempt, AttemptState, Lease, LeaseFault, NotLive, LeaseOver, PieceFault, Unleased}
-use Rattle.ci_machine_steps.specs.Prelude.{WrongOffset, TraceFull, Runner, QueuedJob, JobVariable, is_variable_name, Facts, Row, Variable, Claim, GroupMode, GroupOrder, NewRunner}
-use Rattle.ci_machine_steps.specs.Prelude.{NewVariable, NewMode, NewPipeline, Event, Request, AddProject, AddRunner, PauseRunner}
-use Rattle.ci_machine_steps.specs.Prelude.{SetFile, SetVariable, DeleteVariable, SetMode, ShowMode, CreatePipeline, ShowPipeline, AskJob, UpdateJob, AppendTrace, ShowJob}
-use Rattle.ci_machine_steps.specs.Prelude.{ShowTrace, Read, Play, CancelJob, CancelPipeline, RetryJob, PruneOne, Report, JobUpdate, TracePart, JobQuery, Subject, ReadQuery, Seed}
-use Rattle.ci_machine_steps.specs.Prelude.{Code, M1, M2, M3, M4, M5, M10, M11, M12, M13, M14, M15, M16, M17, Detail, K, Body, Json}
-use Rattle.ci_machine_steps.specs.Prelude.{Answer, Swept, RowChange, Put, Remove, Record, Key, is_name, State, applied, jobs_of, attempts_of, facts_of, rows_of, status_for}
-use Rattle.ci_machine_steps.specs.Prelude.{MAX_NUMBER, printed_status, job_data, pipeline_data, Plan, refused, faulted, fine, asked_project, made_project, add_project, made_runner}
-use Rattle.ci_machine_steps.specs.Prelude.{are_names, lacks_project, add_runner, runner_paused, pause_runner, file_set, set_file, SetsFile, count_with, variable_set, set_variable}
-use Rattle.ci_machine_steps.specs.Prelude.{variable_gone, delete_variable, mode_told, mode_change, set_mode, show_mode, have_names, file_or_none, may_create, given_by, Layout}
-use Rattle.ci_machine_steps.specs.Prelude.{IsLaidOut, lacks_numbers, creation, creation_changes, pipeline_created, MakesUnless, Makes, Creates, nothing_to_run, granted, ask_job}
-use Rattle.ci_machine_steps.specs.Prelude.{unleased, heard, ended, reported, update_job, not_accepted, grown, appended, append_trace, asked_pipeline, pipeline_within}
-use Rattle.ci_machine_steps.specs.Prelude.{pipeline_shown, show_pipeline, job_shown, trace_shown, job_within, asked_job, shown, traced, jobs_read, attempts_read, attempt_within}
-use Rattle.ci_machine_steps.specs.Prelude.{attempt_of, trace_read, read_of, read, permitted, ActsOn, is_playable, play, is_retryable, retry, is_cancellable, cancellable_jobs}
-use Rattle.ci_machine_steps.specs.Prelude.{cancel, CancelsSome, CancelsPipeline, sweep, prunable_in, pruned_reply, pipeline_goes, prune, accepted, first_due, may_run}
-use Rattle.ci_machine_steps.specs.Prelude.{resource_free, is_eligible, chosen, order_of, groups_in, claims_in, Does, Happens, Step, project_with, project_named, runner_at}
-use Rattle.ci_machine_steps.specs.Prelude.{redundant_in, cancellable_in, project_variables, variable_at, pipeline_at, runner_with, attempt_at, pipeline_of, job_at}
-use Rattle.ci_machine_steps.specs.Prelude.{pipeline_or_none, found_job, found_pipeline, last_attempt, trace_of, trace_if_any, lease_of, leases, is_pending, pending_jobs, queued}
-use Rattle.ci_machine_steps.specs.Prelude.{queue, offer, offered_variables, jobs_in, IsRefusal, Stepped, outcome_of}
-use Rattle.ci_graph_layout.specs.Prelude.{Config, MAX_VARIABLES, MAX_TAGS, Given}
+use Rattle.ci_machine_steps.specs.Prelude.{WrongOffset, TraceFull, Runner, QueuedJob, JobVariable, is_variable_name, Facts, Row, Variable, Claim, GroupMode, GroupOrder}
+use Rattle.ci_machine_steps.specs.Prelude.{NewRunner, NewVariable, NewMode, NewPipeline, Event, Request, AddProject, AddRunner, PauseRunner, SetFile, SetVariable, DeleteVariable}
+use Rattle.ci_machine_steps.specs.Prelude.{SetMode, ShowMode, CreatePipeline, ShowPipeline, AskJob, UpdateJob, AppendTrace, ShowJob, ShowTrace, Read, Play, CancelJob}
+use Rattle.ci_machine_steps.specs.Prelude.{CancelPipeline, RetryJob, PruneOne, Report, JobUpdate, TracePart, JobQuery, Subject, ReadQuery, Seed, Code, M1, M2, M3, M4, M5, M10}
+use Rattle.ci_machine_steps.specs.Prelude.{M11, M12, M13, M14, M15, M16, M17, Detail, K, Body, Json, Answer, Swept, RowChange, Put, Remove, Record, Key, is_name, State, applied}
+use Rattle.ci_machine_steps.specs.Prelude.{jobs_of, attempts_of, facts_of, rows_of, status_for, MAX_NUMBER, printed_status, job_data, pipeline_data, Plan, refused, faulted, fine}
+use Rattle.ci_machine_steps.specs.Prelude.{asked_project, made_project, add_project, made_runner, are_names, lacks_project, add_runner, runner_paused, pause_runner, file_set}
+use Rattle.ci_machine_steps.specs.Prelude.{set_file, SetsFile, count_with, variable_set, set_variable, variable_gone, delete_variable, mode_told, mode_change, set_mode}
+use Rattle.ci_machine_steps.specs.Prelude.{show_mode, have_names, file_or_none, may_create, given_by, Layout, IsLaidOut, lacks_numbers, creation, creation_changes}
+use Rattle.ci_machine_steps.specs.Prelude.{pipeline_created, MakesUnless, Makes, Creates, nothing_to_run, granted, ask_job, unleased, heard, ended, reported, update_job}
+use Rattle.ci_machine_steps.specs.Prelude.{not_accepted, grown, appended, append_trace, asked_pipeline, pipeline_within, pipeline_shown, show_pipeline, job_shown, trace_shown}
+use Rattle.ci_machine_steps.specs.Prelude.{job_within, asked_job, shown, traced, jobs_read, attempts_read, attempt_within, attempt_of, trace_read, read_of, read, permitted}
+use Rattle.ci_machine_steps.specs.Prelude.{ActsOn, is_playable, play, is_retryable, retry, is_cancellable, cancellable_jobs, cancel, CancelsSome, CancelsPipeline, sweep}
+use Rattle.ci_machine_steps.specs.Prelude.{prunable_in, pruned_reply, pipeline_goes, prune, accepted, first_due, may_run, resource_free, is_eligible, chosen, order_of, groups_in}
+use Rattle.ci_machine_steps.specs.Prelude.{claims_in, Does, Happens, Step, project_with, project_named, runner_at, redundant_in, cancellable_in, project_variables, variable_at}
+use Rattle.ci_machine_steps.specs.Prelude.{pipeline_at, runner_with, attempt_at, pipeline_of, job_at, pipeline_or_none, found_job, found_pipeline, last_attempt, trace_of}
+use Rattle.ci_machine_steps.specs.Prelude.{trace_if_any, lease_of, leases, is_pending, pending_jobs, queued, queue, offer, offered_variables, jobs_in, IsRefusal, Stepped}
+use Rattle.ci_machine_steps.specs.Prelude.{outcome_of, is_live, renewed, size_after}
 use Rattle.serde_json.specs.Written.{compact_text}
 use Rattle.ci_machine_steps.specs.Reads.{told}
-use Rattle.ci_machine.proofs.Keyed.{Has, has_filter, has_find, find-map}
-use Rattle.ci_machine_steps.specs.Prelude.{is_live, renewed, size_after}
 use Rattle.ci_machine_laws.proofs.Acts.{IsAct, plays, retries, cancels, cancellable_within}
 use Rattle.ci_machine_laws.proofs.Ends.{renewed_live, leased_live}
 

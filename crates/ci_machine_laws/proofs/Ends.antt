@@ -1,9 +1,8 @@
 -- What has ended stays as it ended or went with its pipeline, and then for good, in every state that a history leads to.
-use Rattle.std.proofs.Common.{◌≡◌, ◌⊎◌, ℕ, ◌<◌, ◌≤◌, Bool, true, false, List, ◌∷◌, Result, Ok, Err, refl, sym, ap, subst, ◌∙◌, inl, inr, ⊎_elim, arith}
-use Rattle.std.proofs.lemmas.Bool.{both_ways}
-use Rattle.ci_machine_steps.specs.Prelude.{Attempt, AttemptState, Live, is_live_state, LeaseFault, PieceFault, is_live, while_leased, renewed, if_leased}
-use Rattle.ci_machine_steps.specs.Prelude.{State, attempt_cmp, put, Past, WentWithItsJob}
-use Rattle.ci_machine.proofs.Keyed.{Has, put_has, unequal}
+use Rattle.ci_machine_laws.proofs.Prelude.{◌≡◌, ◌⊎◌, ℕ, ◌<◌, ◌≤◌, Bool, true, false, List, ◌∷◌, Result, Ok, Err, refl, sym, ap, subst, ◌∙◌, inl, inr, ⊎_elim, arith, both_ways}
+use Rattle.ci_machine_laws.proofs.Prelude.{Has, put_has, unequal}
+use Rattle.ci_machine_steps.specs.Prelude.{Attempt, AttemptState, Live, is_live_state, LeaseFault, PieceFault, is_live, while_leased, renewed, if_leased, State, attempt_cmp, put}
+use Rattle.ci_machine_steps.specs.Prelude.{Past, WentWithItsJob}
 use Rattle.ci_machine_laws.proofs.Gone.{still_gone}
 use Rattle.ci_machine_laws.proofs.Traces.{Was, IsNew, same}
 

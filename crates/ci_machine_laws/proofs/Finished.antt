@@ -1,13 +1,9 @@
 -- A finished pipeline has no live attempt: once it is pruned, leases and resource groups stand as they did.
-use Rattle.std.proofs.Common.{◌≡◌, ℕ, false, not, nat_lt, List, [], ◌∷◌, ◌++◌, map, flat_map, Option, Some, refl, ap, ◌∙◌, inl, inr}
-use Rattle.std.proofs.lemmas.Bool.{and_parts}
-use Rattle.ci_machine_steps.specs.Prelude.{Lease, Pipeline, Job, Attempt, BoardRow, State, applied, jobs_of, AreBoard, is_live, is_open_in, held_of, holders, PruneOne, Seed, Plan}
-use Rattle.ci_machine_steps.specs.Prelude.{is_job_among, is_prunable, prunable_in, prune, without_pipeline, Does, limit_or_none, lease_of, leases, live_attempts, jobs_in, IsSound}
-use Rattle.ci_machine.proofs.Keyed.{not_true, Has, has_filter, has_find}
-use Rattle.ci_machine.proofs.Filters.{filter_implied}
-use Rattle.ci_machine_steps.proofs.Pruned.{pruned_state, attempt_left}
-use Rattle.ci_machine_steps.proofs.Finished.{not_its, job_stands}
-use Rattle.ci_machine_steps.proofs.Sound.{Sound, sound}
+use Rattle.ci_machine_laws.proofs.Prelude.{◌≡◌, ℕ, false, not, nat_lt, List, [], ◌∷◌, ◌++◌, map, flat_map, Option, Some, refl, ap, ◌∙◌, inl, inr, and_parts, not_true, Has}
+use Rattle.ci_machine_laws.proofs.Prelude.{has_filter, has_find, filter_implied, pruned_state, attempt_left, not_its, job_stands, Sound, sound}
+use Rattle.ci_machine_steps.specs.Prelude.{Lease, Pipeline, Job, Attempt, BoardRow, State, applied, jobs_of, AreBoard, is_live, is_open_in, held_of, holders, PruneOne, Seed}
+use Rattle.ci_machine_steps.specs.Prelude.{Plan, is_job_among, is_prunable, prunable_in, prune, without_pipeline, Does, limit_or_none, lease_of, leases, live_attempts, jobs_in}
+use Rattle.ci_machine_steps.specs.Prelude.{IsSound}
 use Rattle.ci_machine_laws.proofs.Groups.{held_left}
 
 -- ---- what a prune leaves

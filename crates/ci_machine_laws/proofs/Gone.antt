@@ -1,10 +1,8 @@
 -- Which pipeline a step pruned, and what went with it.
-use Rattle.std.proofs.Common.{◌≡◌, ℕ, true, ◌==◌, List, [], ◌∷◌, Contains, refl, sym, subst, inl, eqb-true}
-use Rattle.std.proofs.lemmas.List.Elements.{Contains-append_right}
+use Rattle.ci_machine_laws.proofs.Prelude.{◌≡◌, ℕ, true, ◌==◌, List, [], ◌∷◌, Contains, refl, sym, subst, inl, eqb-true, Contains-append_right, Has, has_filter}
+use Rattle.ci_machine_laws.proofs.Prelude.{contains_from_has, any_has}
 use Rattle.ci_machine_steps.specs.Prelude.{Pipeline, Job, Attempt, PruneOne, Event, Answer, State, jobs_of, is_job_among, pruned_reply, without_pipeline, Past, Prunes, WasPruned}
 use Rattle.ci_machine_steps.specs.Prelude.{WentWithItsJob}
-use Rattle.ci_machine.proofs.Keyed.{Has, has_filter, contains_from_has}
-use Rattle.ci_machine.proofs.Tests.{any_has}
 
 -- the step was a request to prune, and this pipeline went
 pub record IsPruned (s : State) (e : Event) (a : Answer) (t : State) : Type 0 where

@@ -1,12 +1,11 @@
 -- Attempts in every state that a history leads to: which are live, and how each was granted.
-use Rattle.std.proofs.Common.{◌≡◌, ◌⊎◌, ℕ, ◌+◌, ◌<◌, ◌≤◌, true, false, ◌==◌, ◌&&◌, List, [], ◌∷◌, filter, Some, None, refl, sym, ap, subst, ◌∙◌, ⊎_elim, arith, eqb-true, eq-eqb}
-use Rattle.std.proofs.lemmas.Bool.{cond-true, cond-false, and_parts, ne_eqb}
+use Rattle.ci_machine_laws.proofs.Prelude.{◌≡◌, ◌⊎◌, ℕ, ◌+◌, ◌<◌, ◌≤◌, true, false, ◌==◌, ◌&&◌, List, [], ◌∷◌, filter, Some, None, refl, sym, ap, subst, ◌∙◌, ⊎_elim, arith}
+use Rattle.ci_machine_laws.proofs.Prelude.{eqb-true, eq-eqb, cond-true, cond-false, and_parts, put_all, Has, Rising, has_put, rising_put, rising_filter, has_filter, filter_has}
+use Rattle.ci_machine_laws.proofs.Prelude.{last_greatest, count_one}
+use Rattle.std.proofs.lemmas.Bool.{ne_eqb}
 use Rattle.ci_machine_steps.specs.Prelude.{Runner, Job, Attempt, Event, AskJob, State, empty, attempt_cmp, put, attempts_of, is_live, last_attempt, Past, grants, IsLeastEligible}
-use Rattle.ci_machine_steps.specs.Prelude.{OneLease}
-use Rattle.ci_machine_steps.specs.Prelude.{RowChange}
-use Rattle.ci_machine_steps.proofs.Behind.{put_all}
+use Rattle.ci_machine_steps.specs.Prelude.{OneLease, RowChange}
 use Rattle.ci_machine_laws.proofs.Acts.{IsAct, came}
-use Rattle.ci_machine.proofs.Keyed.{Has, Rising, has_put, rising_put, rising_filter, has_filter, filter_has, last_greatest, count_one}
 
 -- just one line granted the attempt, to the least eligible job: as the law says, but for how the job came into its pipeline
 pub record WasGiven (h : List Past) (a : Attempt) : Type 0 where

@@ -1,21 +1,11 @@
 -- Each resource group of a project is held by at most one live attempt, in every state that a history leads to.
-use Rattle.std.proofs.Common.{◌≡◌, ◌⊎◌, ℕ, ◌==◌, ◌&&◌, ◌||◌, not, Bool, true, false, List, [], ◌∷◌, map, Option, Some, None, option_map, refl, sym, ap}
-use Rattle.std.proofs.Common.{subst, ◌∙◌, inl, inr, ⊎_elim, eqb-true, ne_eqb}
-use Rattle.std.specs.List.{list_any}
-use Rattle.std.specs.Str.{bytes_eq}
-use Rattle.std.proofs.lemmas.Bool.{both_ways, false≢true, and_parts}
-use Rattle.std.proofs.lemmas.Slice.Eq.{bytes_eq-Decides}
-use Rattle.ci_machine_steps.specs.Prelude.{BoardRow, Holder, Pipeline, Job, Attempt, QueuedJob, Event}
-use Rattle.ci_machine_steps.specs.Prelude.{State, applied, attempt_cmp, jobs_of, is_live, holds, is_free}
-use Rattle.ci_machine_steps.specs.Prelude.{held_claim, groups_in}
-use Rattle.ci_machine_steps.specs.Prelude.{is_job_among, without_pipeline, queued_at, group_held, held_by, held_of, holders}
-use Rattle.ci_machine_steps.specs.Prelude.{is_in_group, job_at, pipeline_at, project_or_none, queued, live_attempts, Past}
-use Rattle.ci_machine_steps.specs.Prelude.{Leads, job_for_good, OneLeaseInGroup}
-use Rattle.ci_machine.proofs.Keyed.{not_true, Has, Rising, has_put, filter_has, find_has, count_one, Named, rising_filter}
-use Rattle.ci_machine.proofs.Tests.{has_any, any_joined}
-use Rattle.ci_machine.proofs.Filters.{find_implied}
+use Rattle.ci_machine_laws.proofs.Prelude.{◌≡◌, ◌⊎◌, ℕ, ◌==◌, ◌&&◌, ◌||◌, not, Bool, true, false, List, [], ◌∷◌, map, Option, Some, None, option_map, refl, sym, ap, subst, ◌∙◌}
+use Rattle.ci_machine_laws.proofs.Prelude.{inl, inr, ⊎_elim, eqb-true, ne_eqb, list_any, bytes_eq, both_ways, false≢true, and_parts, bytes_eq-Decides, not_true, Has, Rising}
+use Rattle.ci_machine_laws.proofs.Prelude.{has_put, filter_has, find_has, count_one, Named, rising_filter, has_any, any_joined, find_implied, job_left, attempt_was}
+use Rattle.ci_machine_steps.specs.Prelude.{BoardRow, Holder, Pipeline, Job, Attempt, QueuedJob, Event, State, applied, attempt_cmp, jobs_of, is_live, holds, is_free, held_claim}
+use Rattle.ci_machine_steps.specs.Prelude.{groups_in, is_job_among, without_pipeline, queued_at, group_held, held_by, held_of, holders, is_in_group, job_at, pipeline_at}
+use Rattle.ci_machine_steps.specs.Prelude.{project_or_none, queued, live_attempts, Past, Leads, job_for_good, OneLeaseInGroup}
 use Rattle.ci_machine.proofs.Claims.{free_held, free_not_held}
-use Rattle.ci_machine_steps.proofs.Pruned.{job_left, attempt_was}
 use Rattle.ci_machine_laws.proofs.Grants.{Stood, stood_self, stood_put, stood_act}
 use Rattle.ci_machine_laws.proofs.EachNext.{EachNext, next_is}
 use Rattle.ci_machine_laws.proofs.Reached.{reached}

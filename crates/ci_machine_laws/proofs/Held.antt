@@ -1,10 +1,8 @@
 -- What stays, which records others name, which jobs wait for which, and what sweeps end and requests prune, in every state that a history
 -- leads to.
-use Rattle.std.proofs.Common.{◌≡◌, true, List, [], ◌∷◌, sym, subst, ⊎_elim, arith}
+use Rattle.ci_machine_laws.proofs.Prelude.{◌≡◌, true, List, [], ◌∷◌, sym, subst, ⊎_elim, arith, Has, All-from_has, contains_named, Ordered, changes_ordered, gives_in_order}
 use Rattle.ci_machine_steps.specs.Prelude.{Project, Runner, Pipeline, Job, State, empty, applied, job_variable_cmp, Past, Leads, IsLinked, IsSweptBy, IsPrunedBy, is_grant}
 use Rattle.ci_machine_steps.specs.Prelude.{GivesInOrder}
-use Rattle.ci_machine.proofs.Keyed.{Has, All-from_has, contains_named}
-use Rattle.ci_machine_steps.proofs.Variables.{Ordered, changes_ordered, gives_in_order}
 use Rattle.ci_machine_laws.proofs.EachNext.{next_is}
 use Rattle.ci_machine_laws.proofs.Reached.{reached}
 use Rattle.ci_machine_laws.proofs.Linked.{Linked, linked_on, follows}

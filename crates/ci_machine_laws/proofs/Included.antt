@@ -1,13 +1,8 @@
 -- Each job came into its pipeline by its rules, in every state that a history leads to.
-use Rattle.std.proofs.Common.{◌≡◌, ◌⊎◌, ℕ, List, [], ◌∷◌, Ok, refl, sym, ap, subst, ◌∙◌, inl, inr, ⊎_elim}
-use Rattle.std.proofs.lemmas.List.Elements.{Contains-append_right}
-use Rattle.ci_machine_steps.specs.Prelude.{BoardRow, Job, Attempt, Event, Seed}
-use Rattle.ci_machine_steps.specs.Prelude.{Answer, State, job_cmp, new_job, creation, pipeline_created}
-use Rattle.ci_machine_steps.specs.Prelude.{Past, Leads, job_for_good, IsMadeBy, WasIncluded}
-use Rattle.ci_machine.proofs.Keyed.{Has, Rising, contains_from_has}
-use Rattle.ci_machine_steps.proofs.Behind.{has_all}
-use Rattle.ci_machine_steps.proofs.Created.{new_are, laid_is, lineup_are}
-use Rattle.ci_machine_steps.proofs.Pruned.{job_was}
+use Rattle.ci_machine_laws.proofs.Prelude.{◌≡◌, ◌⊎◌, ℕ, List, [], ◌∷◌, Ok, refl, sym, ap, subst, ◌∙◌, inl, inr, ⊎_elim, Contains-append_right, Has, Rising, contains_from_has}
+use Rattle.ci_machine_laws.proofs.Prelude.{has_all, new_are, laid_is, lineup_are, job_was}
+use Rattle.ci_machine_steps.specs.Prelude.{BoardRow, Job, Attempt, Event, Seed, Answer, State, job_cmp, new_job, creation, pipeline_created, Past, Leads, job_for_good, IsMadeBy}
+use Rattle.ci_machine_steps.specs.Prelude.{WasIncluded}
 use Rattle.ci_machine_laws.proofs.EachPlan.{given_in}
 use Rattle.ci_machine_laws.proofs.EachNext.{EachNext, next_is}
 use Rattle.ci_machine_laws.proofs.Reached.{reached}

@@ -1,20 +1,15 @@
 -- Which jobs wait for which, before each step and after it: those of one pipeline, and in no circle.
-use Rattle.std.proofs.Common.{◌≡◌, ◌⊎◌, ℕ, ◌+◌, ◌<◌, ◌≤◌, List, [], ◌∷◌, ◌++◌, length, map, Contains, Result, Ok, Err, refl, sym, ap, subst, ◌∙◌, inl, inr}
-use Rattle.std.proofs.Common.{⊎_elim, arith}
-use Rattle.ci_graph_layout.specs.Prelude.{Config, Given, Plans, faulty, cyclic}
-use Rattle.ci_machine.specs.Prelude.{IsWalk, HasWalk, IsAcyclic}
-use Rattle.ci_graph_layout.specs.Fault as layout
-use Rattle.ci_graph_layout.specs.declared.fault.GraphCode.{GraphCode}
-use Rattle.ci_machine_steps.specs.Prelude.{BoardRow, Job, Need, RowChange, NewPipeline, Event, Detail, State}
-use Rattle.ci_machine_steps.specs.Prelude.{job_cmp, need_cmp, Layout, IsLaidOut, misread, unplanned, creation, need_of}
-use Rattle.ci_machine_steps.specs.Pipelines as pipelines
-use Rattle.ci_machine.proofs.Keyed.{Has, has_filter, contains_from_has, has_from_contains, has_map, map_has}
-use Rattle.ci_machine_steps.proofs.Behind.{in_either, has_all, put_all}
-use Rattle.ci_machine_steps.proofs.Created.{created_state, IsNew, new_are, needs_are, jobs_behind}
+use Rattle.ci_machine_laws.proofs.Prelude.{◌≡◌, ◌⊎◌, ℕ, ◌+◌, ◌<◌, ◌≤◌, List, [], ◌∷◌, ◌++◌, length, map, Contains, Result, Ok, Err, refl, sym, ap, subst, ◌∙◌, inl, inr, ⊎_elim}
+use Rattle.ci_machine_laws.proofs.Prelude.{arith, Config, Given, Plans, faulty, cyclic, IsWalk, HasWalk, IsAcyclic, GraphCode, Has, has_filter, contains_from_has}
+use Rattle.ci_machine_laws.proofs.Prelude.{has_from_contains, has_map, map_has, in_either, has_all, put_all, created_state, IsNew, new_are, needs_are, jobs_behind}
+use Rattle.ci_machine_steps.specs.Prelude.{BoardRow, Job, Need, RowChange, NewPipeline, Event, Detail, State, job_cmp, need_cmp, Layout, IsLaidOut, misread, unplanned, creation}
+use Rattle.ci_machine_steps.specs.Prelude.{need_of}
 use Rattle.ci_machine_laws.proofs.Acts.{IsAct}
 use Rattle.ci_machine_laws.proofs.EachPlan.{given_in}
 use Rattle.ci_machine_laws.proofs.EachNext.{EachNext}
 use Rattle.ci_machine_laws.proofs.Linked.{Linked}
+use Rattle.ci_graph_layout.specs.Fault as layout
+use Rattle.ci_machine_steps.specs.Pipelines as pipelines
 
 -- the pairs of the needs, by the numbers of their jobs
 abbrev pub by_numbers : List Need → List (ℕ × ℕ)

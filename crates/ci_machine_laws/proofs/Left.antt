@@ -1,10 +1,9 @@
 -- What is left once a pipeline is pruned, and what became of that which was there in an earlier state.
-use Rattle.std.proofs.Common.{◌≡◌, ◌⊎◌, ℕ, ◌≤◌, true, false, ◌==◌, not, List, ◌∷◌, length, refl, sym, ap, subst, ◌∙◌, inl, inr, ⊎_elim, eqb-true, eq-eqb, ne_eqb}
-use Rattle.std.proofs.lemmas.Bool.{both_ways, cases_Bool}
+use Rattle.ci_machine_laws.proofs.Prelude.{◌≡◌, ◌⊎◌, ℕ, ◌≤◌, true, false, ◌==◌, not, List, ◌∷◌, length, refl, sym, ap, subst, ◌∙◌, inl, inr, ⊎_elim, eqb-true, eq-eqb, ne_eqb}
+use Rattle.ci_machine_laws.proofs.Prelude.{both_ways, cases_Bool, not_true, Has, Rising, rising_filter, has_filter, filter_has, Named, among_its, job_left, job_was}
+use Rattle.ci_machine_laws.proofs.Prelude.{attempts_left, attempt_was, attempt_left}
 use Rattle.ci_machine_steps.specs.Prelude.{Pipeline, Job, Need, Attempt, State, jobs_of, is_job_among, without_pipeline, Past, project_for_good, runner_for_good, job_for_good}
 use Rattle.ci_machine_steps.specs.Prelude.{attempt_for_good, Prunes, WasPruned, WentWithItsJob}
-use Rattle.ci_machine.proofs.Keyed.{not_true, Has, Rising, rising_filter, has_filter, filter_has, Named}
-use Rattle.ci_machine_steps.proofs.Pruned.{among_its, job_left, job_was, attempts_left, attempt_was, attempt_left}
 use Rattle.ci_machine_laws.proofs.Gone.{still_pruned, still_gone, is_pruned, goes_with}
 use Rattle.ci_machine_laws.proofs.Linked.{Later, later, Linked, Follows}
 use Rattle.ci_machine_laws.proofs.Joined.{Joined}

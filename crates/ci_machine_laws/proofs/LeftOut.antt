@@ -1,5 +1,5 @@
 -- What changed nothing can be left out.
-use Rattle.std.proofs.Common.{List, [], ◌∷◌, sym, subst, ⊎_elim}
+use Rattle.ci_machine_laws.proofs.Prelude.{List, [], ◌∷◌, sym, subst, ⊎_elim}
 use Rattle.ci_machine_steps.specs.Prelude.{State, Past, Leads}
 use Rattle.ci_machine_laws.specs.Unchanged.{LeadsOrStays, AreSome, none, kept, left_out}
 

@@ -1,3 +1,4 @@
+pub mod Prelude
 pub mod EachPlan
 pub mod EachNext
 pub mod Counts

@@ -1,18 +1,13 @@
 -- What a step leaves, and which records others name.
-use Rattle.std.proofs.Common.{◌≡◌, ◌⊎◌, ℕ, ◌+◌, ◌<◌, ◌≤◌, Bool, ◌==◌, not, List, [], ◌∷◌, ◌++◌, length, map, filter, Ok, nat_cmp, is_eq, is_lt, Ordering, refl}
-use Rattle.std.proofs.Common.{sym, ap, subst, ◌∙◌, inl, inr, ⊎_elim, arith}
-use Rattle.std.proofs.lemmas.Bool.{cases_Bool, cond_both}
-use Rattle.ci_machine_steps.specs.Prelude.{BoardRow, Need, Project, Runner, Pipeline, QueuedJob, Job, Attempt, RowChange, NewPipeline}
-use Rattle.ci_machine_steps.specs.Prelude.{Event, Seed, Answer, State, applied, placed, put, others, pipeline_cmp, job_cmp, need_cmp, attempt_cmp}
-use Rattle.ci_machine_steps.specs.Prelude.{attempts_of, Layout, IsLaidOut, creation, is_prunable}
-use Rattle.ci_machine_steps.specs.Prelude.{Happens, project_for_good, runner_for_good}
-use Rattle.ci_machine_steps.specs.Prelude.{job_for_good, attempt_for_good}
-use Rattle.ci_graph_layout.specs.Prelude.{Given}
-use Rattle.ci_machine.proofs.Keyed.{Has, Rising, has_put, put_has, same, rising_put, has_find, has_map, one_at, Below, Named}
+use Rattle.ci_machine_laws.proofs.Prelude.{◌≡◌, ◌⊎◌, ℕ, ◌+◌, ◌<◌, ◌≤◌, Bool, ◌==◌, List, [], ◌∷◌, ◌++◌, length, map, filter, Ok, nat_cmp, is_lt, Ordering, refl, sym, ap, subst}
+use Rattle.ci_machine_laws.proofs.Prelude.{◌∙◌, inl, inr, ⊎_elim, arith, cond_both, Given, Has, Rising, has_put, same, rising_put, has_find, has_map, one_at, Below, Named}
+use Rattle.ci_machine_laws.proofs.Prelude.{nat_less, in_either, has_left, has_right, put_behind, put_all, has_all, created_state, new_length, IsNew, new_are, new_numbered}
+use Rattle.ci_machine_laws.proofs.Prelude.{needs_are, pairs_inside, jobs_behind}
+use Rattle.ci_machine_steps.specs.Prelude.{BoardRow, Need, Project, Runner, Pipeline, QueuedJob, Job, Attempt, RowChange, NewPipeline, Event, Seed, Answer, State, applied}
+use Rattle.ci_machine_steps.specs.Prelude.{placed, put, others, pipeline_cmp, job_cmp, need_cmp, attempt_cmp, attempts_of, Layout, IsLaidOut, creation, is_prunable, Happens}
+use Rattle.ci_machine_steps.specs.Prelude.{project_for_good, runner_for_good, job_for_good, attempt_for_good}
 use Rattle.ci_machine_laws.proofs.Counts.{passing, passing_mapped, passing_implied, passing_new}
 use Rattle.ci_machine_laws.proofs.PutAll.{all_at, all_at_id, all_in_place, at_or}
-use Rattle.ci_machine_steps.proofs.Behind.{nat_less, in_either, has_left, has_right, put_behind, put_all, has_all}
-use Rattle.ci_machine_steps.proofs.Created.{created_state, new_length, IsNew, new_are, new_numbered, needs_are, pairs_inside, jobs_behind}
 use Rattle.ci_machine_laws.proofs.Acts.{IsAct}
 use Rattle.ci_machine_laws.proofs.EachPlan.{given_in}
 use Rattle.ci_machine_laws.proofs.EachNext.{EachNext, next_is}

@@ -1,19 +1,10 @@
 -- A request that sets the process mode of a resource group changes that of no other group, and nothing else; and no other event changes one.
-use Rattle.std.proofs.Common.{◌≡◌, ℕ, Bool, true, false, cond, ◌==◌, ◌&&◌, not, List, [], ◌∷◌, filter, find, Option, Some, None, option_map, Result, Ok, Err, Ordering, Equal}
-use Rattle.std.proofs.Common.{nat_cmp, is_eq, is_lt, refl, sym, ap, subst, ◌∙◌, inl, inr, ⊎_elim, eqb-true, eq-eqb}
-use Rattle.std.specs.Str.{bytes_eq}
+use Rattle.ci_machine_laws.proofs.Prelude.{◌≡◌, ℕ, Bool, true, false, cond, ◌==◌, ◌&&◌, not, List, [], ◌∷◌, filter, find, Option, Some, None, option_map, Result, Ok, Err}
+use Rattle.ci_machine_laws.proofs.Prelude.{Ordering, Equal, nat_cmp, is_eq, is_lt, refl, sym, ap, subst, ◌∙◌, inl, inr, ⊎_elim, eqb-true, eq-eqb, bytes_eq, slice_cmp, cond_both}
+use Rattle.ci_machine_laws.proofs.Prelude.{cond-true, cond-false, cases_Bool, both_ways, and_parts, is_eq-slice_cmp, bytes_eq-Decides, Has, has_filter, same, equal, find_implied}
 use Rattle.std.specs.Ordering.{ordering_then}
-use Rattle.std.specs.Cmp.Lexicographic.{slice_cmp}
-use Rattle.std.proofs.lemmas.Bool.{cond_both, cond-true, cond-false, cases_Bool, both_ways, and_parts}
-use Rattle.std.proofs.lemmas.Map.Text.{is_eq-slice_cmp}
-use Rattle.std.proofs.lemmas.Slice.Eq.{bytes_eq-Decides}
-use Rattle.ci_machine_steps.specs.Prelude.{BoardRow, Project, GroupMode, GroupOrder, NewMode}
-use Rattle.ci_machine_steps.specs.Prelude.{SetMode}
-use Rattle.ci_machine_steps.specs.Prelude.{Event, Seed, Answer, Code, State}
-use Rattle.ci_machine_steps.specs.Prelude.{placed, mode_cmp, applied, is_mode_of, Plan, mode_change, set_mode, Step}
-use Rattle.ci_machine_steps.specs.Prelude.{IsReached, IsRefusal}
-use Rattle.ci_machine.proofs.Keyed.{Has, has_filter, same, equal}
-use Rattle.ci_machine.proofs.Filters.{find_implied}
+use Rattle.ci_machine_steps.specs.Prelude.{BoardRow, Project, GroupMode, GroupOrder, NewMode, SetMode, Event, Seed, Answer, Code, State, placed, mode_cmp, applied, is_mode_of}
+use Rattle.ci_machine_steps.specs.Prelude.{Plan, mode_change, set_mode, Step, IsReached, IsRefusal}
 use Rattle.ci_machine_laws.specs.Modes.{SetsMode}
 use Rattle.ci_machine_laws.proofs.EachPlan.{Asked, of_asked, is_asked}
 use Rattle.ci_machine_laws.proofs.EachNext.{EachNext, next_is}

@@ -1,14 +1,9 @@
 -- A new pipeline in the state that has it: its jobs, and their facts.
-use Rattle.std.proofs.Common.{◌≡◌, ℕ, ◌+◌, ◌-◌, ◌<◌, ◌≤◌, Bool, ◌==◌, List, [], ◌∷◌, ◌++◌, length, map, filter, replicate, option_map, None, refl, ap, ◌∙◌, inl, inr, arith, eq-eqb}
-use Rattle.std.proofs.Common.{ne_eqb}
-use Rattle.std.specs.List.{last_or}
-use Rattle.std.proofs.lemmas.List.Elements.{filter-append}
-use Rattle.ci_graph_layout.specs.Prelude.{Given}
+use Rattle.ci_machine_laws.proofs.Prelude.{◌≡◌, ℕ, ◌+◌, ◌-◌, ◌<◌, ◌≤◌, Bool, ◌==◌, List, [], ◌∷◌, ◌++◌, length, map, filter, replicate, option_map, None, refl, ap, ◌∙◌, inl, inr}
+use Rattle.ci_machine_laws.proofs.Prelude.{arith, eq-eqb, ne_eqb, last_or, filter-append, Given, Has, filter_none, filter_all, created_state, after_creation, IsNew, new_are}
+use Rattle.ci_machine_laws.proofs.Prelude.{jobs_behind}
 use Rattle.ci_machine_steps.specs.Prelude.{Facts, no_facts, Attempt, Job, NewPipeline, State, applied, jobs_of, attempts_of, facts_in, facts_of, Layout, Creation, creation}
 use Rattle.ci_machine_steps.specs.Prelude.{creation_changes}
-use Rattle.ci_machine.proofs.Keyed.{Has, filter_none}
-use Rattle.ci_machine.proofs.Filters.{filter_all}
-use Rattle.ci_machine_steps.proofs.Created.{created_state, after_creation, IsNew, new_are, jobs_behind}
 use Rattle.ci_machine_laws.proofs.Linked.{Linked}
 
 map_to_one : {A B : Type 0} (f : A → B) (b : B) (xs : List A) → ((x : A) → Has x xs → f x ≡ b) → map f xs ≡ replicate (length xs) b

@@ -1,14 +1,12 @@
 -- The pipelines that are listed of a project are its newest.
-use Rattle.std.proofs.Common.{◌≡◌, ◌⊎◌, ◌<◌, ℕ, zero, suc, ◌+◌, Bool, ◌==◌, List, [], ◌∷◌, ◌++◌, length, map, filter, take, reverse, All, Contains, None, Result, Ok, Err, nat_cmp}
-use Rattle.std.proofs.Common.{is_lt, Less, refl, sym, ap, subst, ◌∙◌, inl, inr, ⊎_elim, arith, eqb-true, eq-eqb}
-use Rattle.std.specs.List.{AllByRecursion}
+use Rattle.ci_machine_laws.proofs.Prelude.{◌≡◌, ◌⊎◌, ◌<◌, ℕ, zero, suc, ◌+◌, Bool, ◌==◌, List, [], ◌∷◌, ◌++◌, length, map, filter, take, reverse, All, Contains, None, Result, Ok}
+use Rattle.ci_machine_laws.proofs.Prelude.{Err, nat_cmp, is_lt, Less, refl, sym, ap, subst, ◌∙◌, inl, inr, ⊎_elim, arith, eqb-true, eq-eqb, AllByRecursion, Has, Rising}
+use Rattle.ci_machine_laws.proofs.Prelude.{rising_from, rising_filter, has_filter, filter_has, All-from_has, contains_from_has, less, nat_less, in_either, has_left, has_right}
+use Rattle.ci_machine_laws.proofs.Prelude.{rising_from_ascend}
 use Rattle.std.specs.List.Sorted.{IsStrictlySortedBy}
 use Rattle.std.proofs.lemmas.Grind.{reverse_onto}
 use Rattle.ci_machine_steps.specs.Prelude.{LISTED_PIPELINES, Pipeline, Project, BoardRow, Event, Read, ReadQuery, Subject, Seed, Code, Reply, Answer, RowChange, State, applied}
 use Rattle.ci_machine_steps.specs.Prelude.{AreBoard, Plan, listed_pipelines, read, Step, Happens, IsReached}
-use Rattle.ci_machine.proofs.Keyed.{Has, Rising, rising_from, rising_filter, has_filter, filter_has, All-from_has, contains_from_has, less}
-use Rattle.ci_machine_steps.proofs.Behind.{nat_less, in_either, has_left, has_right}
-use Rattle.ci_machine_steps.proofs.Sound.{rising_from_ascend}
 use Rattle.ci_machine_laws.specs.Reads.{AreNewest, TellsNewest}
 use Rattle.ci_machine_laws.proofs.EachPlan.{Asked, of_asked, is_asked, of_read}
 use Rattle.ci_machine_laws.proofs.Numbers.{sound_reached}

@@ -1,27 +1,23 @@
 -- Where a runner is told that there is no job, none of the pending ones is one that it may be given.
-use Rattle.std.proofs.Common.{◌≡◌, ◌⊎◌, ℕ, Bool, true, false, not, ◌==◌, ◌&&◌, ◌||◌, nat_lt, List, [], ◌∷◌, All, Contains, Option, Some, None, option_map, refl, sym, ap, subst}
-use Rattle.std.proofs.Common.{◌∙◌, inl, inr, ⊎_elim, eqb-true, eq-eqb, ltb-true, lt-ltb}
-use Rattle.std.specs.List.{list_any, list_all}
-use Rattle.std.specs.Str.{bytes_eq}
-use Rattle.std.proofs.lemmas.Bool.{cond_both, both_ways, false≢true, and_parts, and_from, and_cases, or_left, or_right}
-use Rattle.std.proofs.lemmas.Slice.Eq.{bytes_eq-Decides}
-use Rattle.ci_machine_steps.specs.Prelude.{MAX_NUMBER, Status, BoardRow, GroupOrder, OldestFirst, NewestReadyFirst, Job, JobVariable, QueuedJob, Runner, WaitingJob, Event, AskJob}
-use Rattle.ci_machine_steps.specs.Prelude.{Seed, Answer, M15, NoContent, Reply, State, status_for, AreBoard, is_live, is_open_to, has_tag, takes, may_run, holds, claims_group}
-use Rattle.ci_machine_steps.specs.Prelude.{is_free, resource_free, is_eligible, chosen, order_of, goes_before_in, claims_on, is_in_line, is_behind, queued_at, group_held, held_by}
-use Rattle.ci_machine_steps.specs.Prelude.{held_of, holders, waits_for, waits_as, waiting, groups_in, project_or_none, live_attempts, Plan, refused, granted, ask_job, Step}
-use Rattle.ci_machine_steps.specs.Prelude.{runner_with, is_pending, pending_jobs, queued, queue, offer, offered_variables, IsReached, IsLeastEligible}
+use Rattle.ci_machine_laws.proofs.Prelude.{◌≡◌, ◌⊎◌, ℕ, Bool, true, false, not, ◌==◌, ◌&&◌, ◌||◌, nat_lt, List, [], ◌∷◌, All, Contains, Option, Some, None, option_map, refl, sym}
+use Rattle.ci_machine_laws.proofs.Prelude.{ap, subst, ◌∙◌, inl, inr, ⊎_elim, eqb-true, eq-eqb, ltb-true, lt-ltb, list_any, list_all, bytes_eq, cond_both, both_ways, false≢true}
+use Rattle.ci_machine_laws.proofs.Prelude.{and_parts, and_from, and_cases, or_left, or_right, bytes_eq-Decides, not_true, Has, Rising, has_filter, filter_has, has_find, has_map}
+use Rattle.ci_machine_laws.proofs.Prelude.{All-from_has, contains_from_has, has_from_contains, any_has, has_any, any_joined}
+use Rattle.ci_machine_steps.specs.Prelude.{MAX_NUMBER, Status, BoardRow, GroupOrder, OldestFirst, NewestReadyFirst, Job, JobVariable, QueuedJob, Runner, WaitingJob, Event}
+use Rattle.ci_machine_steps.specs.Prelude.{AskJob, Seed, Answer, M15, NoContent, Reply, State, status_for, AreBoard, is_live, is_open_to, has_tag, takes, may_run, holds}
+use Rattle.ci_machine_steps.specs.Prelude.{claims_group, is_free, resource_free, is_eligible, chosen, order_of, goes_before_in, claims_on, is_in_line, is_behind, queued_at}
+use Rattle.ci_machine_steps.specs.Prelude.{group_held, held_by, held_of, holders, waits_for, waits_as, waiting, groups_in, project_or_none, live_attempts, Plan, refused, granted}
+use Rattle.ci_machine_steps.specs.Prelude.{ask_job, Step, runner_with, is_pending, pending_jobs, queued, queue, offer, offered_variables, IsReached, IsLeastEligible}
+use Rattle.ci_machine.proofs.Claims.{any_claim}
 use Rattle.ci_machine_laws.specs.NoJob.{IsOfProject, HasGroup, MustWait, IsNotFor, HasNoJob}
 use Rattle.ci_machine_laws.specs.NoJob.MustWait.{held, older_first, newer_first}
 use Rattle.ci_machine_laws.specs.NoJob.IsNotFor.{paused, of_other, untagged, lacks_tag, waits}
-use Rattle.ci_machine.proofs.Keyed.{not_true, Has, Rising, has_filter, filter_has, has_find, has_map, All-from_has, contains_from_has, has_from_contains}
-use Rattle.ci_machine.proofs.Tests.{any_has, has_any, any_joined}
-use Rattle.ci_machine.proofs.Claims.{any_claim}
 use Rattle.ci_machine_laws.proofs.Reached.{reached}
-use Rattle.ci_machine_laws.proofs.Held as every
 use Rattle.ci_machine_laws.proofs.Linked.{Linked}
 use Rattle.ci_machine_laws.proofs.Sweeps.{find_none}
 use Rattle.ci_machine_laws.proofs.Groups.{only_one, job_found, pipeline_found}
 use Rattle.ci_machine_laws.proofs.OneBoard.{OneAssignment, one_board}
+use Rattle.ci_machine_laws.proofs.Held as every
 
 -- ---- tests
 

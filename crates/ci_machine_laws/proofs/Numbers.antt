@@ -1,17 +1,12 @@
 -- Every state that a history leads to is sound.
-use Rattle.std.proofs.Common.{◌≡◌, ◌<◌, ◌≤◌, true, List, [], ◌∷◌, length, All, Some, Ordering, Less, refl, sym, subst, inl, inr, arith}
-use Rattle.std.specs.List.{AllByRecursion}
+use Rattle.ci_machine_laws.proofs.Prelude.{◌≡◌, ◌<◌, ◌≤◌, true, List, [], ◌∷◌, length, All, Some, Ordering, Less, refl, sym, subst, inl, inr, arith, AllByRecursion, IsTotalOrder}
+use Rattle.ci_machine_laws.proofs.Prelude.{nat_cmp_total, on_total, then_total, nat_list_cmp_total, Has, All-from_has, ascend_from_rising, Ordered, filter_ordered, put_ordered}
 use Rattle.std.specs.List.Sorted.{IsStrictlySortedBy}
-use Rattle.std.specs.Cmp.{IsTotalOrder}
-use Rattle.std.proofs.lemmas.Cmp.{nat_cmp_total, on_total, then_total, nat_list_cmp_total}
-use Rattle.ci_machine_steps.specs.Prelude.{Pipeline, Job, Need, Attempt, RowChange, Put, Append, Remove, Record, Key, State, need_cmp, GroupMode, mode_cmp, with_record, without_record, changed}
-use Rattle.ci_machine_steps.specs.Prelude.{applied, attempts_of, is_live, last_attempt, Past, Leads, IsReached, IsSound}
-use Rattle.ci_machine.proofs.Keyed.{Has, All-from_has}
+use Rattle.ci_machine_steps.specs.Prelude.{Pipeline, Job, Need, Attempt, RowChange, Put, Append, Remove, Record, Key, State, need_cmp, GroupMode, mode_cmp, with_record}
+use Rattle.ci_machine_steps.specs.Prelude.{without_record, changed, applied, attempts_of, is_live, last_attempt, Past, Leads, IsReached, IsSound}
 use Rattle.ci_machine_laws.proofs.Grants.{live_last}
 use Rattle.ci_machine_laws.proofs.Reached.{reached}
 use Rattle.ci_machine_laws.proofs.Held.{held, is_linked}
-use Rattle.ci_machine_steps.proofs.Sound.{ascend_from_rising}
-use Rattle.ci_machine_steps.proofs.Variables.{Ordered, filter_ordered, put_ordered}
 
 -- ---- needs and modes stand in their order, whatever changes
 

@@ -1,12 +1,10 @@
 -- The statuses of each reached state are one assignment.
-use Rattle.std.proofs.Common.{◌≡◌, ◌⊎◌, ℕ, zero, suc, ◌+◌, ◌^◌, ◌<◌, ◌≤◌, Bool, true, cond, ◌==◌, ◌||◌, nat_lt, List, [], ◌∷◌, length, map, filter, count_by, All, Contains}
-use Rattle.std.proofs.Common.{refl, sym, ap, subst, ◌∙◌, inl, inr, ⊎_elim, arith, eq-eqb, eqb-true, lt-ltb}
-use Rattle.std.proofs.lemmas.Bool.{cases_Bool, cases_lt, false≢true, cond-true, cond-false, le-ltb}
-use Rattle.std.proofs.lemmas.List.{get_or-map, length-map}
-use Rattle.std.proofs.lemmas.List.FromFn.{get_or-map-range_with_len}
+use Rattle.ci_machine_laws.proofs.Prelude.{◌≡◌, ◌⊎◌, ℕ, zero, suc, ◌+◌, ◌^◌, ◌<◌, ◌≤◌, Bool, true, cond, ◌==◌, ◌||◌, nat_lt, List, [], ◌∷◌, length, map, filter, count_by, All}
+use Rattle.ci_machine_laws.proofs.Prelude.{Contains, refl, sym, ap, subst, ◌∙◌, inl, inr, ⊎_elim, arith, eq-eqb, eqb-true, lt-ltb, cases_Bool, cases_lt, false≢true, cond-true}
+use Rattle.ci_machine_laws.proofs.Prelude.{cond-false, le-ltb, get_or-map, length-map, get_or-map-range_with_len, number_at, list_at, times, once, is_among, distinct, IsOrder}
+use Rattle.ci_machine_laws.proofs.Prelude.{IsStuck, AreWithin, IsWalk, IsAcyclic, firsts_of, has_pair, JobGraph, IsJobGraph, part_at, predecessors_of, row_at, Has, Rising, Below}
+use Rattle.ci_machine_laws.proofs.Prelude.{rising_filter, has_filter, filter_has, find_has, has_map, map_has, contains_from_has, has_from_contains, has_from_all, All-from_has}
 use Rattle.std.proofs.lemmas.List.Sums.{sum_by-cons}
-use Rattle.ci_machine.specs.Prelude.{number_at, list_at, times, once, is_among, distinct, IsOrder, IsStuck, AreWithin, IsWalk, IsAcyclic, firsts_of, has_pair, JobGraph, IsJobGraph}
-use Rattle.ci_machine.specs.Prelude.{part_at, predecessors_of}
 use Rattle.ci_graph.proofs.Steps.{Neighbours, Progress, sources, released, IsReady}
 use Rattle.ci_graph.proofs.Counts.{times_here, times_more, once_yes}
 use Rattle.ci_graph.proofs.Groups.{has_yes, within_of, times_distinct, among_firsts, neighbours_by, neighbours_are, exact_at}
@@ -15,10 +13,8 @@ use Rattle.ci_graph.proofs.Graphs.{graph_of as graph_of_pairs}
 use Rattle.ci_graph.proofs.Queues.{ready_first, ready_more, ready_end, ready_stuck}
 use Rattle.ci_machine_steps.specs.Prelude.{Status, Effect, Facts, Row, effect, is_open, is_fail, is_bar, status_of_effects, AreRows, facts_at, statuses, no_row, effects_of}
 use Rattle.ci_machine_steps.specs.Prelude.{IsAssignment, row_of, BoardRow, Job, Need, Attempt, State, jobs_of, numbers_of, place_in, pair_of, pairs_of, predecessors_by, graph_of}
-use Rattle.ci_machine_steps.specs.Prelude.{facts_in, facts_of, row_or_none, row_for, rows_of, AreBoard, is_pending, Past, Leads, grants, WasGranted, JoinsOnePipeline, HasNoCircle}
-use Rattle.ci_machine_steps.specs.Prelude.{HasOneBoard, WasPending, MAX_NUMBER}
-use Rattle.ci_board.specs.Prelude.{row_at}
-use Rattle.ci_machine.proofs.Keyed.{Has, Rising, Below, rising_filter, has_filter, filter_has, find_has, has_map, map_has, contains_from_has, has_from_contains, has_from_all, All-from_has}
+use Rattle.ci_machine_steps.specs.Prelude.{facts_in, facts_of, row_or_none, row_for, rows_of, AreBoard, is_pending, Past, Leads, grants, WasGranted, JoinsOnePipeline}
+use Rattle.ci_machine_steps.specs.Prelude.{HasNoCircle, HasOneBoard, WasPending, MAX_NUMBER}
 use Rattle.ci_machine_laws.proofs.PutAll.{map_twice}
 use Rattle.ci_machine_laws.proofs.Reached.{reached}
 use Rattle.ci_machine_laws.proofs.Linked.{Linked}

@@ -1,15 +1,12 @@
 -- An event has one outcome, but that a pattern of the CI file that it reads may be refused: each plan, and then each step.
-use Rattle.std.proofs.Common.{◌≡◌, ◌⊎◌, ℕ, Bool, true, false, not, nat_lt, ◌==◌, List, [], ◌∷◌, length, Option, Some, None, option_and_then, Result, Ok, Err, refl, sym, ap, subst}
-use Rattle.std.proofs.Common.{◌∙◌, inl, inr, ⊎_elim}
-use Rattle.std.proofs.lemmas.Bool.{cond_both}
-use Rattle.ci_machine_steps.specs.Prelude.{BoardRow, Job, Pipeline, RowChange, Event, Request, SetFile}
-use Rattle.ci_machine_steps.specs.Prelude.{CreatePipeline, Play, CancelJob, CancelPipeline}
-use Rattle.ci_machine_steps.specs.Prelude.{RetryJob, Seed, Answer, Code, M2, M10, M11, M12, Swept, State, applied, jobs_of, attempts_of, facts_of, rows_of, status_for}
-use Rattle.ci_machine_steps.specs.Prelude.{AreBoard, claims_in, queued, Plan, faulted, asked_project, set_file, SetsFile, have_names, file_or_none, file_for, may_create, given_by}
-use Rattle.ci_machine_steps.specs.Prelude.{Layout, lacks_numbers, creation, creation_changes, pipeline_created, MakesUnless, Makes, Creates, is_name, Project, NewPipeline, Detail}
-use Rattle.ci_machine_steps.specs.Prelude.{K, permitted, ActsOn, is_cancellable, cancellable_jobs, cancel, CancelsSome, CancelsPipeline, is_playable, play, is_retryable, retry}
-use Rattle.ci_machine_steps.specs.Prelude.{job_shown, pipeline_shown, Does, Happens, Step, found_job, found_pipeline, project_with, project_variables, Past, IsReached}
-use Rattle.ci_graph_layout.specs.Prelude.{Given, MAX_VARIABLES}
+use Rattle.ci_machine_laws.proofs.Prelude.{◌≡◌, ◌⊎◌, ℕ, Bool, true, false, not, nat_lt, ◌==◌, List, [], ◌∷◌, length, Option, Some, None, option_and_then, Result, Ok, Err, refl}
+use Rattle.ci_machine_laws.proofs.Prelude.{sym, ap, subst, ◌∙◌, inl, inr, ⊎_elim, cond_both, Given, MAX_VARIABLES}
+use Rattle.ci_machine_steps.specs.Prelude.{BoardRow, Job, Pipeline, RowChange, Event, Request, SetFile, CreatePipeline, Play, CancelJob, CancelPipeline, RetryJob, Seed, Answer}
+use Rattle.ci_machine_steps.specs.Prelude.{Code, M2, M10, M11, M12, Swept, State, applied, jobs_of, attempts_of, facts_of, rows_of, status_for, AreBoard, claims_in, queued, Plan}
+use Rattle.ci_machine_steps.specs.Prelude.{faulted, asked_project, set_file, SetsFile, have_names, file_or_none, file_for, may_create, given_by, Layout, lacks_numbers, creation}
+use Rattle.ci_machine_steps.specs.Prelude.{creation_changes, pipeline_created, MakesUnless, Makes, Creates, is_name, Project, NewPipeline, Detail, K, permitted, ActsOn}
+use Rattle.ci_machine_steps.specs.Prelude.{is_cancellable, cancellable_jobs, cancel, CancelsSome, CancelsPipeline, is_playable, play, is_retryable, retry, job_shown}
+use Rattle.ci_machine_steps.specs.Prelude.{pipeline_shown, Does, Happens, Step, found_job, found_pipeline, project_with, project_variables, Past, IsReached}
 use Rattle.ci_machine_laws.specs.OneOutcome.{text_read, HoldsPattern, RefusesPattern, OneOutcome}
 use Rattle.ci_machine_laws.proofs.OneBoard.{OneAssignment, one_board}
 use Rattle.ci_machine_laws.proofs.Readings.{Readings, pattern_refused, read_once, laid_once}

@@ -1,8 +1,6 @@
 -- A job whose row is pending has no live attempt.
-use Rattle.std.proofs.Common.{◌≡◌, true, List, Some, sym, ap, ◌∙◌}
-use Rattle.std.proofs.lemmas.Bool.{false≢true}
+use Rattle.ci_machine_laws.proofs.Prelude.{◌≡◌, true, List, Some, sym, ap, ◌∙◌, false≢true, Has}
 use Rattle.ci_machine_steps.specs.Prelude.{Status, is_status, Job, Attempt, BoardRow, State, AreBoard, is_live, last_attempt, is_pending}
-use Rattle.ci_machine.proofs.Keyed.{Has}
 use Rattle.ci_machine_steps.proofs.Running.{live_runs}
 
 pub pending_free : (s : State) (board : List BoardRow) → AreBoard s board → (job : Job) → Has job s.jobs → is_pending board job ≡ true

@@ -1,14 +1,9 @@
 -- What an accepted piece of a trace does.
-use Rattle.std.proofs.Common.{◌≡◌, ℕ, ◌+◌, ◌≤◌, true, ◌==◌, nat_le, ◌++◌, length, if◌then◌else◌, Option, Some, None, option_map, Result, Ok, Err, refl, sym, ap, subst, ◌∙◌}
-use Rattle.std.proofs.Common.{eqb-true, leb-true}
-use Rattle.std.specs.Str.{bytes_eq}
-use Rattle.std.proofs.lemmas.Bool.{cond_both, false≢true}
-use Rattle.std.proofs.lemmas.List.{length-append}
-use Rattle.ci_machine_steps.specs.Prelude.{Attempt, Trace, LeaseFault, NotLive, PieceFault, Unleased, WrongOffset, TraceFull, MAX_TRACE_BYTES, TracePart, Event}
-use Rattle.ci_machine_steps.specs.Prelude.{AppendTrace, Seed, Answer, Accepted, M5, Reply, State, applied, renewed, size_after, if_leased, accepted, Plan, refused, appended}
-use Rattle.ci_machine_steps.specs.Prelude.{append_trace, Step, attempt_at, lease_of, trace_of, is_accepted}
-use Rattle.ci_machine.proofs.Keyed.{has_find}
-use Rattle.ci_machine_steps.proofs.Traces.{its_trace, other_trace}
+use Rattle.ci_machine_laws.proofs.Prelude.{◌≡◌, ℕ, ◌+◌, ◌≤◌, true, ◌==◌, nat_le, ◌++◌, length, if◌then◌else◌, Option, Some, None, option_map, Result, Ok, Err, refl, sym, ap}
+use Rattle.ci_machine_laws.proofs.Prelude.{subst, ◌∙◌, eqb-true, leb-true, bytes_eq, cond_both, false≢true, length-append, has_find, its_trace, other_trace}
+use Rattle.ci_machine_steps.specs.Prelude.{Attempt, Trace, LeaseFault, NotLive, PieceFault, Unleased, WrongOffset, TraceFull, MAX_TRACE_BYTES, TracePart, Event, AppendTrace}
+use Rattle.ci_machine_steps.specs.Prelude.{Seed, Answer, Accepted, M5, Reply, State, applied, renewed, size_after, if_leased, accepted, Plan, refused, appended, append_trace}
+use Rattle.ci_machine_steps.specs.Prelude.{Step, attempt_at, lease_of, trace_of, is_accepted}
 use Rattle.ci_machine_laws.specs.Pieces.{GoesBehind}
 
 -- a trace of this size takes so many bytes from this offset, and has the size z then

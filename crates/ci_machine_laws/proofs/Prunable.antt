@@ -1,10 +1,8 @@
 -- Which pipeline a request to prune prunes, in a state whose pipelines stand in the order of their numbers.
-use Rattle.std.proofs.Common.{◌≡◌, ◌<◌, ◌≤◌, ℕ, true, false, ◌&&◌, not, nat_lt, List, Option, Some, None, refl, sym, ap, subst, ◌∙◌, inl, inr, ⊎_elim, ltb-true, lt-ltb}
-use Rattle.std.proofs.lemmas.Bool.{and_parts, both_ways, cases_Bool}
-use Rattle.ci_machine_steps.specs.Prelude.{BoardRow, Pipeline, RowChange}
-use Rattle.ci_machine_steps.specs.Prelude.{PruneOne, Event, Seed, Answer, State, AreBoard, is_open_in, Plan, is_prunable, prunable_in, prune, Happens, jobs_in, IsLeastPrunable}
-use Rattle.ci_machine_steps.specs.Prelude.{NoneIsPrunable, IsPrunedBy}
-use Rattle.ci_machine.proofs.Keyed.{not_true, Rising, has_find, least_find, All-from_has, contains_from_has}
+use Rattle.ci_machine_laws.proofs.Prelude.{◌≡◌, ◌<◌, ◌≤◌, ℕ, true, false, ◌&&◌, not, nat_lt, List, Option, Some, None, refl, sym, ap, subst, ◌∙◌, inl, inr, ⊎_elim, ltb-true}
+use Rattle.ci_machine_laws.proofs.Prelude.{lt-ltb, and_parts, both_ways, cases_Bool, not_true, Rising, has_find, least_find, All-from_has, contains_from_has}
+use Rattle.ci_machine_steps.specs.Prelude.{BoardRow, Pipeline, RowChange, PruneOne, Event, Seed, Answer, State, AreBoard, is_open_in, Plan, is_prunable, prunable_in, prune}
+use Rattle.ci_machine_steps.specs.Prelude.{Happens, jobs_in, IsLeastPrunable, NoneIsPrunable, IsPrunedBy}
 use Rattle.ci_machine_laws.proofs.Sweeps.{find_none}
 
 module _ (s : State) (board : List BoardRow) (before : ℕ) (are : AreBoard s board) where

@@ -1,11 +1,9 @@
 -- Many records put into a list in the order of its numbers.
-use Rattle.std.proofs.Common.{◌≡◌, ◌⊎◌, ℕ, ◌+◌, ◌<◌, ◌≤◌, true, false, not, ◌==◌, if◌then◌else◌, List, [], ◌∷◌, map, nat_cmp, is_eq, is_lt, Ordering, refl, sym, ap, subst, ◌∙◌, inl}
-use Rattle.std.proofs.Common.{inr, ⊎_elim, arith, eqb-true, eq-eqb, ne_eqb, map-id}
-use Rattle.std.proofs.lemmas.Bool.{cond_both, cond-true, cond-false, both_ways, cases_Bool, false_from_ne_true}
+use Rattle.ci_machine_laws.proofs.Prelude.{◌≡◌, ◌⊎◌, ℕ, ◌+◌, ◌<◌, ◌≤◌, true, false, not, ◌==◌, if◌then◌else◌, List, [], ◌∷◌, map, nat_cmp, is_eq, is_lt, Ordering, refl, sym, ap}
+use Rattle.ci_machine_laws.proofs.Prelude.{subst, ◌∙◌, inl, inr, ⊎_elim, arith, eqb-true, eq-eqb, ne_eqb, map-id, cond_both, cond-true, cond-false, both_ways, cases_Bool}
+use Rattle.ci_machine_laws.proofs.Prelude.{false_from_ne_true, Has, Rising, Named, less, equal, unequal, rising_from, rising_put, put_has, has_map, map_has, one_at, filter_all}
+use Rattle.ci_machine_laws.proofs.Prelude.{nat_less, put_all}
 use Rattle.ci_machine_steps.specs.Prelude.{placed, others, put}
-use Rattle.ci_machine.proofs.Keyed.{Has, Rising, Named, less, equal, unequal, rising_from, rising_put, put_has, has_map, map_has, one_at}
-use Rattle.ci_machine.proofs.Filters.{filter_all}
-use Rattle.ci_machine_steps.proofs.Behind.{nat_less, put_all}
 
 pub map_twice : {A B C : Type 0} (g : B → C) (f : A → B) (xs : List A) → map (λ x. g (f x)) xs ≡ map g (map f xs)
 map_twice g f [] = refl

@@ -1,36 +1,22 @@
 -- What holds of every state that a history leads to.
-use Rattle.std.proofs.Common.{◌≡◌, ◌⊎◌, ℕ, ◌<◌, ◌≤◌, Bool, true, false, ◌==◌, ◌&&◌, List, [], ◌∷◌, if◌then◌else◌, Some}
-use Rattle.std.proofs.Common.{refl, sym, ap, subst, ◌∙◌, inl, inr, ⊎_elim, arith}
-use Rattle.std.specs.Str.{bytes_eq}
-use Rattle.std.proofs.lemmas.Bool.{both_ways, cases_Bool}
-use Rattle.std.proofs.lemmas.Slice.Eq.{bytes_eq-Decides}
-use Rattle.ci_machine_steps.specs.Prelude.{BoardRow, Runner, Job, JobVariable, QueuedJob, Attempt}
-use Rattle.ci_machine_steps.specs.Prelude.{TracePart, Event}
-use Rattle.ci_machine_steps.specs.Prelude.{AskJob}
-use Rattle.ci_machine_steps.specs.Prelude.{AppendTrace, Seed, Answer}
-use Rattle.ci_machine_steps.specs.Prelude.{State, applied, put, job_cmp, attempt_cmp, jobs_of, AreBoard, is_live}
-use Rattle.ci_machine_steps.specs.Prelude.{is_eligible, chosen}
-use Rattle.ci_machine_steps.specs.Prelude.{groups_in}
-use Rattle.ci_machine_steps.specs.Prelude.{creation}
-use Rattle.ci_machine_steps.specs.Prelude.{pipeline_created, granted, grown}
-use Rattle.ci_machine_steps.specs.Prelude.{is_job_among, pruned_reply, without_pipeline}
-use Rattle.ci_machine_steps.specs.Prelude.{runner_with}
-use Rattle.ci_machine_steps.specs.Prelude.{last_attempt, is_pending}
-use Rattle.ci_machine_steps.specs.Prelude.{pending_jobs, queued, queue, Past, Leads, grants, accepted_bytes}
-use Rattle.ci_machine.proofs.Keyed.{Has, Rising, rising_put, has_put, rising_filter, has_filter, filter_has, has_find, least_find, find-map, one_at, All-from_has, contains_from_has}
-use Rattle.ci_machine_laws.proofs.Grants as leased
+use Rattle.ci_machine_laws.proofs.Prelude.{◌≡◌, ◌⊎◌, ℕ, ◌<◌, ◌≤◌, Bool, true, false, ◌==◌, ◌&&◌, List, [], ◌∷◌, if◌then◌else◌, Some, refl, sym, ap, subst, ◌∙◌, inl, inr, ⊎_elim}
+use Rattle.ci_machine_laws.proofs.Prelude.{arith, bytes_eq, both_ways, cases_Bool, bytes_eq-Decides, Has, Rising, rising_put, has_put, rising_filter, has_filter, filter_has}
+use Rattle.ci_machine_laws.proofs.Prelude.{has_find, least_find, find-map, one_at, All-from_has, contains_from_has, put_all, attempt_was, attempt_left, trace_left}
+use Rattle.ci_machine_steps.specs.Prelude.{BoardRow, Runner, Job, JobVariable, QueuedJob, Attempt, TracePart, Event, AskJob, AppendTrace, Seed, Answer, State, applied, put}
+use Rattle.ci_machine_steps.specs.Prelude.{job_cmp, attempt_cmp, jobs_of, AreBoard, is_live, is_eligible, chosen, groups_in, creation, pipeline_created, granted, grown}
+use Rattle.ci_machine_steps.specs.Prelude.{is_job_among, pruned_reply, without_pipeline, runner_with, last_attempt, is_pending, pending_jobs, queued, queue, Past, Leads, grants}
+use Rattle.ci_machine_steps.specs.Prelude.{accepted_bytes}
 use Rattle.ci_machine_laws.proofs.Grants.{Grants, grants_empty, live_last}
 use Rattle.ci_machine_laws.proofs.Pending.{pending_free}
-use Rattle.ci_machine_steps.proofs.Behind.{put_all}
 use Rattle.ci_machine_laws.proofs.PutAll.{rising_all, has_still}
-use Rattle.ci_machine_steps.proofs.Pruned.{attempt_was, attempt_left, trace_left}
 use Rattle.ci_machine_laws.proofs.EachPlan.{given_in}
 use Rattle.ci_machine_laws.proofs.EachNext.{IsQuiet, EachNext, next_is}
 use Rattle.ci_machine_laws.proofs.Gone.{goes_with}
+use Rattle.ci_machine_laws.proofs.Ends.{Ends}
+use Rattle.ci_machine_laws.proofs.Traces.{Traces, Was, IsNew, same, traces_empty}
+use Rattle.ci_machine_laws.proofs.Grants as leased
 use Rattle.ci_machine_laws.proofs.Traces as trace
 use Rattle.ci_machine_laws.proofs.Ends as finals
-use Rattle.ci_machine_laws.proofs.Ends.{Ends, renewed_live, leased_live}
-use Rattle.ci_machine_laws.proofs.Traces.{Traces, Was, IsNew, same, traces_empty}
 
 pub record Inv (h : List Past) (s : State) : Type 0 where
   pub grants : Grants h s

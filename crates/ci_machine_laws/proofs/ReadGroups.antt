@@ -1,23 +1,13 @@
 -- The resource groups that are told of a project are those that have a process mode or are held.
-use Rattle.std.proofs.Common.{◌≡◌, ◌⊎◌, ℕ, true, not, ◌==◌, ◌&&◌, List, [], ◌∷◌, map, find, flat_map, Option, Some, None, option_map, option_and_then, Result, Ok, Err, nat_cmp}
-use Rattle.std.proofs.Common.{is_eq, Ordering, Less, refl, sym, ap, subst, ◌∙◌, inl, inr, ⊎_elim, eqb-true, eq-eqb}
-use Rattle.std.specs.Str.{bytes_eq}
+use Rattle.ci_machine_laws.proofs.Prelude.{◌≡◌, ◌⊎◌, ℕ, true, not, ◌==◌, ◌&&◌, List, [], ◌∷◌, map, find, flat_map, Option, Some, None, option_map, option_and_then, Result, Ok}
+use Rattle.ci_machine_laws.proofs.Prelude.{Err, nat_cmp, is_eq, Ordering, Less, refl, sym, ap, subst, ◌∙◌, inl, inr, ⊎_elim, eqb-true, eq-eqb, bytes_eq, slice_cmp, Equal-is}
+use Rattle.ci_machine_laws.proofs.Prelude.{cases_Bool, both_ways, and_parts, nat_list_cmp_total, is_eq-slice_cmp, bytes_eq-Decides, Has, Rising, has_put, put_has, has_filter}
+use Rattle.ci_machine_laws.proofs.Prelude.{filter_has, has_map, map_has, has_find, find_has, All-from_has, contains_from_has, has_from_contains, equal, any_has, has_any}
+use Rattle.ci_machine_laws.proofs.Prelude.{in_either, has_left, has_right, Ordered, filter_ordered, put_ordered, rising_from_ascend}
 use Rattle.std.specs.Ordering.{ordering_then}
-use Rattle.std.specs.Cmp.Lexicographic.{slice_cmp}
-use Rattle.std.specs.Cmp.{Equal-is}
-use Rattle.std.proofs.lemmas.Bool.{cases_Bool, both_ways, and_parts}
-use Rattle.std.proofs.lemmas.Cmp.{nat_list_cmp_total}
-use Rattle.std.proofs.lemmas.Map.Text.{is_eq-slice_cmp}
-use Rattle.std.proofs.lemmas.Slice.Eq.{bytes_eq-Decides}
-use Rattle.ci_machine_steps.specs.Prelude.{Project, Attempt, BoardRow, GroupMode, Holder, QueuedJob, Event, Read, ReadQuery, Subject}
-use Rattle.ci_machine_steps.specs.Prelude.{Seed, Code, Reply, Answer, State, mode_cmp, put, attempt_at, live_attempts}
-use Rattle.ci_machine_steps.specs.Prelude.{is_live, holds, group_held, held_by, held_of, queued_at, holders, holders_in, modes_in, Plan, with_names, group_names, read, Step}
-use Rattle.ci_machine_steps.specs.Prelude.{IsReached}
-use Rattle.ci_machine.proofs.Keyed.{Has, Rising, has_put, put_has, has_filter, filter_has, has_map, map_has, has_find, find_has, All-from_has, contains_from_has, has_from_contains, equal}
-use Rattle.ci_machine.proofs.Tests.{any_has, has_any}
-use Rattle.ci_machine_steps.proofs.Behind.{in_either, has_left, has_right}
-use Rattle.ci_machine_steps.proofs.Variables.{Ordered, filter_ordered, put_ordered}
-use Rattle.ci_machine_steps.proofs.Sound.{rising_from_ascend}
+use Rattle.ci_machine_steps.specs.Prelude.{Project, Attempt, BoardRow, GroupMode, Holder, QueuedJob, Event, Read, ReadQuery, Subject, Seed, Code, Reply, Answer, State, mode_cmp}
+use Rattle.ci_machine_steps.specs.Prelude.{put, attempt_at, live_attempts, is_live, holds, group_held, held_by, held_of, queued_at, holders, holders_in, modes_in, Plan}
+use Rattle.ci_machine_steps.specs.Prelude.{with_names, group_names, read, Step, IsReached}
 use Rattle.ci_machine_laws.specs.Reads.{IsHeldBy, IsModeOf, AreGroups, IsHolder, TellsGroups}
 use Rattle.ci_machine_laws.proofs.EachPlan.{Asked, of_asked, is_asked}
 use Rattle.ci_machine_laws.proofs.Numbers.{sound_reached, in_order, ascend}

@@ -1,13 +1,13 @@
 -- What a text says is one answer, but that a pattern of it may be refused; and so is what it lays out.
-use Rattle.std.proofs.Common.{◌≡◌, ◌⊎◌, ℕ, List, Result, Ok, Err, refl, sym, ap, subst, ◌∙◌, inl, inr, ⊎_elim}
-use Rattle.ci_graph_layout.specs.Prelude.{X8, Config, Patterns, built, refused, Fault, K13, LacksPatterns, meaning, Means, Plans, faulty, cyclic, planned, Given}
+use Rattle.ci_machine_laws.proofs.Prelude.{◌≡◌, ◌⊎◌, ℕ, List, Result, Ok, Err, refl, sym, ap, subst, ◌∙◌, inl, inr, ⊎_elim, X8, Config, Patterns, built, Fault, K13}
+use Rattle.ci_machine_laws.proofs.Prelude.{LacksPatterns, meaning, Means, Plans, faulty, cyclic, planned, Given, GraphCode}
+use Rattle.ci_graph_layout.specs.Prelude.{refused}
 use Rattle.ci_config.specs.Prelude.{Code, Value}
 use Rattle.ci_yaml.specs.Prelude.{HasTree, IsFault}
-use Rattle.ci_graph_layout.specs.Fault as layout
-use Rattle.ci_graph_layout.specs.declared.fault.GraphCode.{GraphCode}
 use Rattle.ci_machine_steps.specs.Prelude.{Detail, line_fault, keyword_fault, IsRead, configures, misconfigures, lacks_tree, graph_fault, Layout, IsLaidOut, misread, unplanned}
-use Rattle.ci_machine_steps.specs.Pipelines as pipelines
 use Rattle.ci_machine_laws.specs.OneOutcome.{HoldsPattern}
+use Rattle.ci_graph_layout.specs.Fault as layout
+use Rattle.ci_machine_steps.specs.Pipelines as pipelines
 
 -- what is cited of the crates below: a text has one tree, or one fault; a tree has one meaning, or a pattern of it is refused
 pub record Readings : Type 0 where

@@ -1,20 +1,16 @@
 -- What a runner sends again changes nothing.
-use Rattle.std.proofs.Common.{◌≡◌, ◌⊎◌, ℕ, ◌+◌, Bool, true, false, cond, ◌==◌, not, max, List, [], ◌∷◌, ◌++◌, length, find, Option, Some, None, option_map, Result, Ok, Err}
-use Rattle.std.proofs.Common.{nat_cmp, is_eq, is_lt, Ordering, refl, sym, ap, subst, ◌∙◌, inl, inr, ⊎_elim, arith, eqb-true, eq-eqb, ne_eqb}
-use Rattle.std.specs.Str.{bytes_eq}
-use Rattle.std.proofs.lemmas.Bool.{cond_both, cond-true, cond-false, both_ways, false≢true}
-use Rattle.std.proofs.lemmas.List.{append-nil, length-append}
-use Rattle.ci_machine_steps.specs.Prelude.{AttemptState, Live, Succeeded, is_live_state, Attempt, Trace, Lease, LeaseFault, NotLive, LeaseOver, PieceFault, RowChange}
-use Rattle.ci_machine_steps.specs.Prelude.{Put, Record, Event, UpdateJob, AppendTrace, Seed, Report, JobUpdate, TracePart, M5, HttpStatus, Fine, Reply, Answer, State, applied}
-use Rattle.ci_machine_steps.specs.Prelude.{placed, put, others, attempt_cmp, trace_cmp, trace_in, with_bytes, is_live, is_over, while_leased, renewed, accepted, same_exit}
-use Rattle.ci_machine_steps.specs.Prelude.{is_same_end, finished, status_of_state, refusal, Plan, refused, heard, ended, reported, update_job, grown, appended, append_trace}
-use Rattle.ci_machine_steps.specs.Prelude.{Happens, Step, attempt_at, lease_of, lease_at, trace_of, Past, Leads, IsReached}
-use Rattle.ci_machine.specs.Prelude.{Failed}
+use Rattle.ci_machine_laws.proofs.Prelude.{◌≡◌, ◌⊎◌, ℕ, ◌+◌, Bool, true, false, cond, ◌==◌, not, max, List, [], ◌∷◌, ◌++◌, length, find, Option, Some, None, option_map, Result}
+use Rattle.ci_machine_laws.proofs.Prelude.{Ok, Err, nat_cmp, is_eq, is_lt, Ordering, refl, sym, ap, subst, ◌∙◌, inl, inr, ⊎_elim, arith, eqb-true, eq-eqb, ne_eqb, bytes_eq}
+use Rattle.ci_machine_laws.proofs.Prelude.{cond_both, cond-true, cond-false, both_ways, false≢true, append-nil, length-append, Failed, Has, Rising, rising_put, find_has}
+use Rattle.ci_machine_laws.proofs.Prelude.{has_find, equal, All-from_has, contains_named, named_contains, filter_implied, its_trace}
+use Rattle.ci_machine_steps.specs.Prelude.{AttemptState, Live, Succeeded, is_live_state, Attempt, Trace, Lease, LeaseFault, NotLive, LeaseOver, PieceFault, RowChange, Put}
+use Rattle.ci_machine_steps.specs.Prelude.{Record, Event, UpdateJob, AppendTrace, Seed, Report, JobUpdate, TracePart, M5, HttpStatus, Fine, Reply, Answer, State, applied, placed}
+use Rattle.ci_machine_steps.specs.Prelude.{put, others, attempt_cmp, trace_cmp, trace_in, with_bytes, is_live, is_over, while_leased, renewed, accepted, same_exit, is_same_end}
+use Rattle.ci_machine_steps.specs.Prelude.{finished, status_of_state, refusal, Plan, refused, heard, ended, reported, update_job, grown, appended, append_trace, Happens, Step}
+use Rattle.ci_machine_steps.specs.Prelude.{attempt_at, lease_of, lease_at, trace_of, Past, Leads, IsReached}
 use Rattle.ci_machine_steps.specs.Reports.{told}
-use Rattle.ci_machine.proofs.Keyed.{Has, Rising, rising_put, find_has, has_find, equal, All-from_has, contains_named, named_contains}
-use Rattle.ci_machine.proofs.Filters.{filter_implied}
-use Rattle.ci_machine_steps.proofs.Traces.{its_trace}
-use Rattle.ci_machine_laws.specs.Repeats.{is_of_runner, is_final, WasJustSent, TwiceIsOnce, IsTakenEnd, IsAnsweredAgain, while_there, once_pruned, EndsOnce, OfEachLine, RepeatsChangeNothing}
+use Rattle.ci_machine_laws.specs.Repeats.{is_of_runner, is_final, WasJustSent, TwiceIsOnce, IsTakenEnd, IsAnsweredAgain, while_there, once_pruned, EndsOnce, OfEachLine}
+use Rattle.ci_machine_laws.specs.Repeats.{RepeatsChangeNothing}
 use Rattle.ci_machine_laws.proofs.Ends.{HasGone, while_live}
 use Rattle.ci_machine_laws.proofs.Linked.{has_self}
 use Rattle.ci_machine_laws.proofs.Reached.{reached}

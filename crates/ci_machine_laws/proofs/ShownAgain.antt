@@ -1,30 +1,25 @@
 -- What a user's act answers is what is answered where the job or the pipeline is asked for next.
-use Rattle.std.proofs.Common.{◌≡◌, ℕ, Bool, true, false, not, nat_lt, ◌==◌, List, [], ◌∷◌, length, map, replicate, Option, Some, None, Result, Ok, Err, refl, sym, ap, subst, ◌∙◌}
-use Rattle.std.proofs.Common.{⊎_elim, arith, eq-eqb, eqb-true}
-use Rattle.std.proofs.lemmas.Bool.{cond_both, cond-true}
+use Rattle.ci_machine_laws.proofs.Prelude.{◌≡◌, ℕ, Bool, true, false, not, nat_lt, ◌==◌, List, [], ◌∷◌, length, map, replicate, Option, Some, None, Result, Ok, Err, refl, sym}
+use Rattle.ci_machine_laws.proofs.Prelude.{ap, subst, ◌∙◌, ⊎_elim, arith, eq-eqb, eqb-true, cond_both, cond-true, MAX_VARIABLES, Has, Rising, rising_put, find_has, has_find}
+use Rattle.ci_machine_laws.proofs.Prelude.{has_map, one_at, created_state, put_all, has_all}
 use Rattle.ci_machine_steps.specs.Prelude.{is_name, no_facts, Status, BoardRow, Claim, Job, Pipeline, Project, RowChange, Answer, Code, M2, M3, M10, M11, M12, M13, M14, M15}
-use Rattle.ci_machine_steps.specs.Prelude.{Detail, K, Reply, Event, JobQuery, NewPipeline, PipelineQuery, Request}
-use Rattle.ci_machine_steps.specs.Prelude.{CreatePipeline, ShowPipeline, ShowJob, Play}
-use Rattle.ci_machine_steps.specs.Prelude.{CancelJob, CancelPipeline, RetryJob, Seed, State, pipeline_cmp, job_cmp, attempt_cmp, others, applied, jobs_of, attempts_of}
-use Rattle.ci_machine_steps.specs.Prelude.{facts_of, rows_of, status_for, AreBoard, claims_in, Plan, faulted, asked_project, have_names, file_or_none, file_for, may_create, Layout}
-use Rattle.ci_machine_steps.specs.Prelude.{lacks_numbers, creation, creation_changes, ShowsCreated, MakesUnless, Makes, Creates, permitted, ShowsJobAfter, ShowsPipelineAfter}
-use Rattle.ci_machine_steps.specs.Prelude.{ActsOn, is_cancellable, cancellable_jobs, cancel, CancelsSome, CancelsPipeline, is_playable, play, is_retryable, retry, job_within}
-use Rattle.ci_machine_steps.specs.Prelude.{asked_job, job_shown, shown, show_job, asked_pipeline, pipeline_shown, show_pipeline, Does, Step, project_with, pipeline_at, pipeline_of}
+use Rattle.ci_machine_steps.specs.Prelude.{Detail, K, Reply, Event, JobQuery, NewPipeline, PipelineQuery, Request, CreatePipeline, ShowPipeline, ShowJob, Play, CancelJob}
+use Rattle.ci_machine_steps.specs.Prelude.{CancelPipeline, RetryJob, Seed, State, pipeline_cmp, job_cmp, attempt_cmp, others, applied, jobs_of, attempts_of, facts_of, rows_of}
+use Rattle.ci_machine_steps.specs.Prelude.{status_for, AreBoard, claims_in, Plan, faulted, asked_project, have_names, file_or_none, file_for, may_create, Layout, lacks_numbers}
+use Rattle.ci_machine_steps.specs.Prelude.{creation, creation_changes, ShowsCreated, MakesUnless, Makes, Creates, permitted, ShowsJobAfter, ShowsPipelineAfter, ActsOn}
+use Rattle.ci_machine_steps.specs.Prelude.{is_cancellable, cancellable_jobs, cancel, CancelsSome, CancelsPipeline, is_playable, play, is_retryable, retry, job_within, asked_job}
+use Rattle.ci_machine_steps.specs.Prelude.{job_shown, shown, show_job, asked_pipeline, pipeline_shown, show_pipeline, Does, Step, project_with, pipeline_at, pipeline_of}
 use Rattle.ci_machine_steps.specs.Prelude.{pipeline_or_none, project_or_none, job_at, queued, found_job, found_pipeline, Past, IsReached, job_for_good}
-use Rattle.ci_graph_layout.specs.Prelude.{MAX_VARIABLES}
-use Rattle.ci_machine.proofs.Keyed.{Has, Rising, rising_put, find_has, has_find, has_map, one_at}
-use Rattle.ci_machine_steps.proofs.Created.{created_state}
-use Rattle.ci_machine_steps.proofs.Behind.{put_all, has_all}
 use Rattle.ci_machine_laws.specs.ShownAgain.{ActsOnJob, asks_for}
 use Rattle.ci_machine_laws.proofs.Acts.{IsAct, plays, retries, cancels, cancellable_within, after_act}
 use Rattle.ci_machine_laws.proofs.PutAll.{all_at, all_at_id, all_in_place, rising_all}
 use Rattle.ci_machine_laws.proofs.EachPlan.{Asked, of_asked, is_asked, given_in}
-use Rattle.ci_machine_laws.proofs.Held as every
 use Rattle.ci_machine_laws.proofs.Linked.{Linked, has_self}
 use Rattle.ci_machine_laws.proofs.NewPipelines.{its_jobs, its_facts, made_state}
 use Rattle.ci_machine_laws.proofs.OneBoard.{OneAssignment, one_board}
 use Rattle.ci_machine_laws.proofs.OneOutcome.{BoardOnce}
 use Rattle.ci_machine_laws.proofs.Reached.{reached}
+use Rattle.ci_machine_laws.proofs.Held as every
 
 abbrev number : Job → ℕ
 number j = j.id

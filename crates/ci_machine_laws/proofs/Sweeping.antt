@@ -1,26 +1,19 @@
 -- Each sweep that does something leaves fewer live attempts or fewer unfinished pipelines, so at one moment there comes one that finds nothing.
-use Rattle.std.proofs.Common.{◌≡◌, ◌⊎◌, ℕ, zero, suc, ◌+◌, ◌<◌, ◌≤◌, Bool, true, false, ◌==◌, ◌&&◌, ◌||◌, not, if◌then◌else◌, List, [], ◌∷◌, ◌++◌, length, map, filter, find}
-use Rattle.std.proofs.Common.{Option, Some, None, option_map, slice_index_or, refl, sym, ap, subst, ◌∙◌, inl, inr, ⊎_elim, arith, eqb-true, eq-eqb, map-id}
-use Rattle.std.specs.List.{last_or, list_any}
-use Rattle.std.proofs.lemmas.Bool.{cond_both, cond-true, cond-false, both_ways, cases_Bool, cases_lt, false≢true, and_parts, and_from, and_left, false_from_ne_true}
-use Rattle.std.proofs.lemmas.List.{length-map}
-use Rattle.ci_machine_steps.specs.Prelude.{AttemptState, AllowFailure, is_live_state, Effect, Good, Bars, Facts, Row, Status, is_status, is_allowed, is_allowed_by, effect, is_open}
-use Rattle.ci_machine_steps.specs.Prelude.{is_met, waits_for_play, idle_status, status_by, status_of_effects, AreRows, no_facts, no_row, facts_at, statuses, effects_of}
-use Rattle.ci_machine_steps.specs.Prelude.{IsAssignment, some_job, has_status, has_strict, pipeline_status, Lease, Attempt, BoardRow, Job, Pipeline, PipelineWithStatus}
-use Rattle.ci_machine_steps.specs.Prelude.{Event, Seed, Answer, Swept, RowChange, State, applied, attempt_cmp, jobs_of, attempts_of, graph_of, facts_in, facts_of, row_for, rows_of}
+use Rattle.ci_machine_laws.proofs.Prelude.{◌≡◌, ◌⊎◌, ℕ, zero, suc, ◌+◌, ◌<◌, ◌≤◌, Bool, true, false, ◌==◌, ◌&&◌, ◌||◌, not, if◌then◌else◌, List, [], ◌∷◌, ◌++◌, length, map}
+use Rattle.ci_machine_laws.proofs.Prelude.{filter, find, Option, Some, None, option_map, slice_index_or, refl, sym, ap, subst, ◌∙◌, inl, inr, ⊎_elim, arith, eqb-true, eq-eqb}
+use Rattle.ci_machine_laws.proofs.Prelude.{map-id, last_or, list_any, cond_both, cond-true, cond-false, both_ways, cases_Bool, cases_lt, false≢true, and_parts, and_from}
+use Rattle.ci_machine_laws.proofs.Prelude.{and_left, false_from_ne_true, length-map, Failed, Part, JobGraph, part_at, predecessors_of, Has, Rising, has_filter, filter_has}
+use Rattle.ci_machine_laws.proofs.Prelude.{has_find, has_map, find-map, one_at, has_from_all, All-from_has, any_has, has_any, put_all, not_its, Sound, sound}
+use Rattle.ci_machine_steps.specs.Prelude.{AttemptState, AllowFailure, is_live_state, Effect, Good, Bars, Facts, Row, Status, is_status, is_allowed, is_allowed_by, effect}
+use Rattle.ci_machine_steps.specs.Prelude.{is_open, is_met, waits_for_play, idle_status, status_by, status_of_effects, AreRows, no_facts, no_row, facts_at, statuses, effects_of}
+use Rattle.ci_machine_steps.specs.Prelude.{IsAssignment, some_job, has_status, has_strict, pipeline_status, Lease, Attempt, BoardRow, Job, Pipeline, PipelineWithStatus, Event}
+use Rattle.ci_machine_steps.specs.Prelude.{Seed, Answer, Swept, RowChange, State, applied, attempt_cmp, jobs_of, attempts_of, graph_of, facts_in, facts_of, row_for, rows_of}
 use Rattle.ci_machine_steps.specs.Prelude.{status_for, AreBoard, is_live, is_over, cause_of, first_due, is_unfinished, is_newer_of, is_redundant, is_open_in, is_cancellable}
 use Rattle.ci_machine_steps.specs.Prelude.{cancellable_jobs, is_lease_on, cancelled_job, cancelled_attempt, cancel, is_job_among, ends, sweep, Step, lease_of, leases}
 use Rattle.ci_machine_steps.specs.Prelude.{live_attempts, with_status, was_tried, redundant_in, cancellable_in, sweep_in, Past, Leads, NoneIsDue, NoneIsRedundant, IsSweptBy}
 use Rattle.ci_machine_steps.specs.Prelude.{HasOneBoard}
-use Rattle.ci_machine.specs.Prelude.{Failed, Part, JobGraph, part_at, predecessors_of}
 use Rattle.ci_board.specs.declared.facts.Effect.TheVariants.{Open}
-use Rattle.ci_board.specs.Standing as standing
 use Rattle.ci_machine_laws.specs.Sweeping.{Sweeps, unended, EndsBy}
-use Rattle.ci_machine.proofs.Keyed.{Has, Rising, has_filter, filter_has, has_find, has_map, find-map, one_at, has_from_all, All-from_has}
-use Rattle.ci_machine.proofs.Tests.{any_has, has_any}
-use Rattle.ci_machine_steps.proofs.Behind.{put_all}
-use Rattle.ci_machine_steps.proofs.Finished.{not_its}
-use Rattle.ci_machine_steps.proofs.Sound.{Sound, sound}
 use Rattle.ci_machine_laws.proofs.Acts.{cancellable_within, after_cancel}
 use Rattle.ci_machine_laws.proofs.AllLaws.{laws}
 use Rattle.ci_machine_laws.proofs.Altered.{altered, Alters, long_altered, graph_altered, facts_altered, attempts_altered, facts_kept, open_by, open_as_it_was}
@@ -28,10 +21,11 @@ use Rattle.ci_machine_laws.proofs.Counts.{passing, passing_mapped, passing_impli
 use Rattle.ci_machine_laws.proofs.Finished.{map_same}
 use Rattle.ci_machine_laws.proofs.Numbers.{sound_reached}
 use Rattle.ci_machine_laws.proofs.Bounded.{within_limit}
-use Rattle.ci_machine_laws.proofs.Held as every
 use Rattle.ci_machine_laws.proofs.Reached.{reached}
 use Rattle.ci_machine_laws.proofs.OneBoard.{OneAssignment, one_board, rows_with, rows_like, assembled, its_keys, its_rows}
 use Rattle.ci_machine_laws.proofs.PutAll.{map_twice, all_at, all_at_id, all_in_place, rising_mapped, changed_at, left_at, made_in_place}
+use Rattle.ci_board.specs.Standing as standing
+use Rattle.ci_machine_laws.proofs.Held as every
 
 -- ---- how many there are
 

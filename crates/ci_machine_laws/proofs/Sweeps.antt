@@ -1,10 +1,10 @@
 -- What a sweep does, in a state whose records stand in the order of their numbers.
-use Rattle.std.proofs.Common.{◌≡◌, ℕ, ◌≤◌, Bool, true, false, ◌&&◌, List, [], ◌∷◌, map, filter, find, Option, Some, None, option_map, refl, sym, ap, subst, ◌∙◌, ⊎_elim}
-use Rattle.std.proofs.lemmas.Bool.{and_parts, cases_Bool, cond_both}
+use Rattle.ci_machine_laws.proofs.Prelude.{◌≡◌, ℕ, ◌≤◌, Bool, true, false, ◌&&◌, List, [], ◌∷◌, map, filter, find, Option, Some, None, option_map, refl, sym, ap, subst, ◌∙◌}
+use Rattle.ci_machine_laws.proofs.Prelude.{⊎_elim, and_parts, cases_Bool, cond_both, Has, Rising, rising_filter, filter_has, has_filter, has_find, least_find, find-map}
+use Rattle.ci_machine_laws.proofs.Prelude.{All-from_has, contains_from_has, has_map}
 use Rattle.ci_machine_steps.specs.Prelude.{BoardRow, Pipeline, PipelineWithStatus, Attempt, Lease, RowChange, Event, Seed, Answer, Swept, State, AreBoard, is_live, cause_of}
-use Rattle.ci_machine_steps.specs.Prelude.{is_over, first_due, sweep, is_redundant, Happens, lease_of, leases, live_attempts, with_status, was_tried, redundant_in, cancellable_in}
-use Rattle.ci_machine_steps.specs.Prelude.{is_due, NoneIsDue, is_redundant_in, IsLeastRedundant, NoneIsRedundant, SweepsLeast, IsSweptBy}
-use Rattle.ci_machine.proofs.Keyed.{Has, Rising, rising_filter, filter_has, has_filter, has_find, least_find, find-map, All-from_has, contains_from_has, has_map}
+use Rattle.ci_machine_steps.specs.Prelude.{is_over, first_due, sweep, is_redundant, Happens, lease_of, leases, live_attempts, with_status, was_tried, redundant_in}
+use Rattle.ci_machine_steps.specs.Prelude.{cancellable_in, is_due, NoneIsDue, is_redundant_in, IsLeastRedundant, NoneIsRedundant, SweepsLeast, IsSweptBy}
 
 pub find_none : {A : Type 0} (p : A → Bool) (x : A) (xs : List A) → find p xs ≡ None → Has x xs → p x ≡ false
 find_none p x [] e k = absurd k

@@ -1,10 +1,8 @@
 -- Traces in every state that a history leads to.
-use Rattle.std.proofs.Common.{◌≡◌, ◌⊎◌, ℕ, ◌<◌, ◌≤◌, ◌==◌, List, [], ◌∷◌, ◌++◌, if◌then◌else◌, refl, sym, ap, subst, ◌∙◌, inl, ⊎_elim, arith, eq-eqb}
-use Rattle.std.proofs.lemmas.Bool.{cond-true, cond-false, ne_eqb}
-use Rattle.std.proofs.lemmas.List.{append-nil}
+use Rattle.ci_machine_laws.proofs.Prelude.{◌≡◌, ◌⊎◌, ℕ, ◌<◌, ◌≤◌, ◌==◌, List, [], ◌∷◌, ◌++◌, if◌then◌else◌, refl, sym, ap, subst, ◌∙◌, inl, ⊎_elim, arith, eq-eqb, cond-true}
+use Rattle.ci_machine_laws.proofs.Prelude.{cond-false, append-nil, Has, Named, has_put_other, different, no_trace, its_trace, other_trace, traces_then}
+use Rattle.std.proofs.lemmas.Bool.{ne_eqb}
 use Rattle.ci_machine_steps.specs.Prelude.{Attempt, Trace, State, empty, attempt_cmp, put, trace_in, with_bytes, trace_of, Past, accepted_bytes, all_accepted, IsTraced}
-use Rattle.ci_machine.proofs.Keyed.{Has, Named, has_put_other, different}
-use Rattle.ci_machine_steps.proofs.Traces.{no_trace, its_trace, other_trace, traces_then}
 
 pub record Traces (h : List Past) (s : State) : Type 0 where
   -- no trace is of an attempt that is still to come

@@ -1,4 +1,4 @@
-use Rattle.std.proofs.Common.{◌≡◌, List, refl}
+use Rattle.ci_machine_laws.proofs.Prelude.{◌≡◌, List, refl}
 use Rattle.ci_machine_steps.specs.Prelude.{Pending, Running, Canceled, BoardRow, Event, Answer, Swept, RowChange, State, applied, AreBoard, Step}
 use Rattle.ci_board.specs.declared.facts.Status.TheVariants.{Failed}
 use Rattle.ci_machine_laws.specs.Examples.{seed, swept}

@@ -1,6 +1,5 @@
-use Rattle.std.proofs.Common.{◌≡◌, arith}
+use Rattle.ci_machine_laws.proofs.Prelude.{◌≡◌, arith, has_from_all}
 use Rattle.ci_machine_steps.specs.Prelude.{Swept}
-use Rattle.ci_machine.proofs.Keyed.{has_from_all}
 use Rattle.ci_machine_laws.specs.Sweeping.{unended}
 use Rattle.ci_machine_laws.proofs.Sweeping.{none_left, so_many, ends_by}
 use Rattle.ci_machine_laws.proofs.due.what_is_due_ends.Goals as goal

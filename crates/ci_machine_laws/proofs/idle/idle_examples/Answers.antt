@@ -1,14 +1,11 @@
-use Rattle.std.proofs.Common.{ℕ, false, List, [], ◌∷◌, codes, refl, sym, ap, inl, inr, arith}
-use Rattle.std.specs.Str.{bytes_eq}
-use Rattle.std.proofs.lemmas.Bool.{false≢true}
+use Rattle.ci_machine_laws.proofs.Prelude.{ℕ, false, List, [], ◌∷◌, codes, refl, sym, ap, inl, inr, arith, bytes_eq, false≢true, Has, contains_from_has, has_from_contains}
 use Rattle.ci_machine_steps.specs.Prelude.{Live, GroupMode, OldestFirst, NewestReadyFirst, Attempt, Pending}
-use Rattle.ci_machine.proofs.Keyed.{Has, contains_from_has, has_from_contains}
 use Rattle.ci_machine_laws.specs.Examples.{leased}
 use Rattle.ci_machine_laws.specs.ActExamples.{its_pipeline, tried}
 use Rattle.ci_machine_laws.specs.WaitingExamples.{some_runner, ship}
 use Rattle.ci_machine_laws.specs.ModeExamples.{of_ref, prod_in, three, third_is, third_tried}
-use Rattle.ci_machine_laws.specs.NoJob as why
 use Rattle.ci_machine_laws.specs.NoJob.{HasGroup, MustWait, IsNotFor}
+use Rattle.ci_machine_laws.specs.NoJob as why
 use Rattle.ci_machine_laws.proofs.idle.idle_examples.Goals as goal
 
 -- a job of the three has the group `prod` of the project 1

@@ -1,8 +1,5 @@
-use Rattle.std.proofs.Common.{ap}
-use Rattle.ci_machine.proofs.Keyed.{has_from_contains}
+use Rattle.ci_machine_laws.proofs.Prelude.{ap, has_from_contains, jobs_left, no_jobs, job_was, attempts_left, trace_left, sound}
 use Rattle.ci_machine_steps.specs.Prelude.{Plan}
-use Rattle.ci_machine_steps.proofs.Pruned.{jobs_left, no_jobs, job_was, attempts_left, trace_left}
-use Rattle.ci_machine_steps.proofs.Sound.{sound}
 use Rattle.ci_machine_laws.proofs.Finished.{leases_left, holders_left, its_plan, then_left, is_finished}
 use Rattle.ci_machine_laws.proofs.laws.a_prune_leaves_the_rest.Goals as goal
 

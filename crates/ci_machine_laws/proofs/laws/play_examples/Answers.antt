@@ -1,4 +1,4 @@
-use Rattle.std.proofs.Common.{refl}
+use Rattle.ci_machine_laws.proofs.Prelude.{refl}
 use Rattle.ci_machine_laws.specs.Examples.{after}
 use Rattle.ci_machine_laws.specs.ActExamples.{board_from, two, hand_played, played_rows, succeeded, hand_retried}
 use Rattle.ci_machine_laws.proofs.Computed.{computed}

@@ -1,4 +1,4 @@
-use Rattle.std.proofs.Common.{refl}
+use Rattle.ci_machine_laws.proofs.Prelude.{refl}
 use Rattle.ci_machine_steps.specs.Prelude.{Pending, Canceled}
 use Rattle.ci_machine_laws.specs.Examples.{after}
 use Rattle.ci_machine_laws.specs.ShownExamples.{three_rows, oldest, all_wait, second_cancelled, first_cancelled, third_done, third_retried}
