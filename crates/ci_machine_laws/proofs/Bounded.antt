@@ -15,12 +15,7 @@ or_right false b e = e
 stays : (s : State) (board : List BoardRow) (e : Event) → IsWithinLimit s → EachNext s board e (λ _ t. IsWithinLimit t)
 stays s board e within = record {
   stays = λ _ _. within;
-  project = λ _ _ name seed. within;
-  runner = λ _ _ new seed. within;
-  paused = λ _ _ runner paused has. within;
-  file = λ _ _ project text has. within;
-  variables = λ _ _ vs. within;
-  modes = λ _ _ new is ms. within;
+  aside = λ _ _ t by. within;
   pipeline = λ new now is project text laid claims rows asked has named file lays fits.
       let first = s.next.job in
       let last = first + length laid.plan.jobs - 1 in

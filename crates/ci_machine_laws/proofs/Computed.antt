@@ -1,6 +1,7 @@
 -- Worked examples that are computed: what unfolds for them, and boards, whose rows are right if they come out of themselves.
 use Rattle.ci_machine_laws.proofs.Prelude.{◌≡◌, ℕ, ◌<◌, ◌==◌, List, [], ◌∷◌, length, map, count_by, sym, ap, subst, ◌∙◌, inl, inr, arith, eqb-true, refl, range_with_len}
-use Rattle.ci_machine_laws.proofs.Prelude.{length-map, get_or-map-range_with_len, JobGraph, part_at, row_at, Has, has_filter}
+use Rattle.ci_machine_laws.proofs.Prelude.{length-map, JobGraph, part_at, row_at, Has, has_filter}
+use Rattle.std.proofs.lemmas.List.FromFn.{get_or-map-range_with_len}
 use Rattle.ci_machine_steps.specs.Prelude.{Facts, Row, Effect, is_open, is_fail, is_bar, status_of_effects, facts_at, statuses, no_row, effects_of, Job, BoardRow, State, jobs_of}
 use Rattle.ci_machine_steps.specs.Prelude.{graph_of, facts_of, rows_of, AreBoard}
 unfoldable pub use Rattle.std.specs.Fmt.{digits}

@@ -75,12 +75,7 @@ Come s t = (b : Attempt) → Has b t.attempts → Stood s b ⊎ IsNew s b
 comes : (s : State) (board : List BoardRow) (e : Event) → Rising job_id 0 s.jobs → Rising (λ (a : Attempt). a.id) 0 s.attempts → EachNext s board e (λ _ t. Come s t)
 comes s board e jobs_rise rise = record {
   stays = λ _ _. same;
-  project = λ _ _ name seed. same;
-  runner = λ _ _ new seed. same;
-  paused = λ _ _ runner paused has. same;
-  file = λ _ _ project text has. same;
-  variables = λ _ _ vs. same;
-  modes = λ _ _ new is ms. same;
+  aside = λ _ _ t by. same;
   pipeline = λ new now is project text laid claims rows asked has named file lays fits. same;
   granted = λ token is runner job q variables now seed found offered has_runner has_job pending is_queued free b k. ⊎_elim
       (λ e. inr (record {

@@ -24,12 +24,7 @@ From s e now seed a t = (j : Job) → Has j t.jobs → Was s j ⊎ IsMadeBy (lin
 are : (s : State) (board : List BoardRow) (e : Event) (now : ℕ) (seed : Seed) → Rising (λ (w : Job). w.id) 0 s.jobs → Rising (λ (a : Attempt). a.id) 0 s.attempts → EachNext s board e (From s e now seed)
 are s board e now seed jobs_rise rise = record {
   stays = λ _ _. same;
-  project = λ _ _ name seed. same;
-  runner = λ _ _ new seed. same;
-  paused = λ _ _ runner paused has. same;
-  file = λ _ _ project text has. same;
-  variables = λ _ _ vs. same;
-  modes = λ _ _ new is ms. same;
+  aside = λ _ _ t by. same;
   pipeline = λ new at is project text laid claims rows asked has named file lays fits j k.
       let made = creation s.next.pipeline s.next.job new (given_in s new) at laid in
       let lays = laid_is text (given_in s new) (Ok laid) lays in

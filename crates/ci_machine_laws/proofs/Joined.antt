@@ -202,12 +202,7 @@ module _ (needs some : List Need) (had : (w : Need) → Has w some → Has w nee
 pub joined_on : (s : State) (board : List BoardRow) (e : Event) → Linked s → Joined s.jobs s.needs → EachNext s board e (λ _ t. Joined t.jobs t.needs)
 joined_on s board e i was = record {
   stays = λ _ _. was;
-  project = λ _ _ name seed. was;
-  runner = λ _ _ new seed. was;
-  paused = λ _ _ runner paused has. was;
-  file = λ _ _ project text has. was;
-  variables = λ _ _ vs. was;
-  modes = λ _ _ new is ms. was;
+  aside = λ _ _ t by. was;
   pipeline = λ new now is project text laid claims rows asked has named file lays fits. enters s new (given_in s new) now text laid i was lays;
   granted = λ token is runner job q variables now seed found offered has_runner has_job pending is_queued free. was;
   alters = λ _ _ old seen state has live. was;

@@ -10,7 +10,7 @@ use Rattle.ci_machine_laws.proofs.Counts.{passing, passing_mapped, passing_impli
 use Rattle.ci_machine_laws.proofs.PutAll.{all_at, all_at_id, all_in_place, at_or}
 use Rattle.ci_machine_laws.proofs.Acts.{IsAct}
 use Rattle.ci_machine_laws.proofs.EachPlan.{given_in}
-use Rattle.ci_machine_laws.proofs.EachNext.{EachNext, next_is}
+use Rattle.ci_machine_laws.proofs.EachNext.{EachNext, IsAside, project_made, runner_made, runner_stands, file_stands, next_is}
 use Rattle.ci_machine_laws.proofs.Gone.{IsPruned}
 
 -- ---- lists
@@ -156,29 +156,10 @@ pub later : (s t : State) → Next s t → Later s t
 later s t n = record { projects = n.projects.0; runners = n.runners.0; pipelines = n.pipelines.0; jobs = n.kept_jobs; attempts = n.attempts.stay }
 
 turns : (s : State) → Linked s → (a b : Job) → WasThere s a ⊎ IsOfNext s a → WasThere s b ⊎ IsOfNext s b → a.pipeline < b.pipeline → a.id < b.id
-turns s i a b (inl v) (inl w) lt =
-    let x : v.0.id ≡ a.id = v.1.1.0 in
-    let y : w.0.id ≡ b.id = w.1.1.0 in
-    let p : v.0.pipeline ≡ a.pipeline = v.1.1.1 in
-    let q : w.0.pipeline ≡ b.pipeline = w.1.1.1 in
-    let z : v.0.id < w.0.id = i.in_turn v.0 w.0 v.1.0 w.1.0 (omega arith) in
-    omega arith
-turns s i a b (inl v) (inr m) lt =
-    let x : v.0.id ≡ a.id = v.1.1.0 in
-    let y : v.0.id < s.next.job = i.job_below v.0 v.1.0 in
-    let z : s.next.job ≤ b.id = m.1 in
-    omega arith
-turns s i a b (inr n) (inl w) lt =
-    let p = i.job_pipeline w.0 w.1.0 in
-    let x : p.0.id < s.next.pipeline = i.pipeline_below p.0 p.1.0 in
-    let y : p.0.id ≡ w.0.pipeline = p.1.1 in
-    let q : w.0.pipeline ≡ b.pipeline = w.1.1.1 in
-    let z : a.pipeline ≡ s.next.pipeline = n.0 in
-    absurd (omega arith)
-turns s i a b (inr n) (inr m) lt =
-    let y : a.pipeline ≡ s.next.pipeline = n.0 in
-    let z : b.pipeline ≡ s.next.pipeline = m.0 in
-    absurd (omega arith)
+turns s i a b (inl v) (inl w) lt = omega (arith, v.1.1.0, w.1.1.0, i.in_turn v.0 w.0 v.1.0 w.1.0 (omega (arith, v.1.1.1, w.1.1.1)))
+turns s i a b (inl v) (inr m) lt = omega (arith, v.1.1.0, i.job_below v.0 v.1.0, m.1)
+turns s i a b (inr n) (inl w) lt = let p = i.job_pipeline w.0 w.1.0 in absurd (omega (arith, i.pipeline_below p.0 p.1.0, p.1.1, w.1.1.1, n.0))
+turns s i a b (inr n) (inr m) lt = absurd (omega (arith, n.0, m.0))
 
 pub linked_on : (s t : State) → Linked s → Next s t → Linked t
 linked_on s t i n = record {
@@ -358,12 +339,7 @@ Follows s e a t = Next s t ⊎ IsPruned s e a t
 goes : (s : State) (board : List BoardRow) (e : Event) → Linked s → Rising (λ (j : Job). j.id) 0 s.jobs → Rising (λ (a : Attempt). a.id) 0 s.attempts → Below (λ (a : Attempt). a.id) s.next.attempt s.attempts → EachNext s board e (Follows s e)
 goes s board e i jr r b = record {
   stays = λ _ _. inl rests;
-  project = λ _ _ name seed. inl (with_projects s i _ _ (new_in (λ (p : Project). p.id) project_for_good _ s.projects i.projects_rise i.project_below));
-  runner = λ _ _ new seed. inl (with_runners s i _ _ (new_in (λ (q : Runner). q.id) runner_for_good _ s.runners i.runners_rise i.runner_below));
-  paused = λ _ _ runner paused has. inl (with_runners s i _ _ (put_in (λ (q : Runner). q.id) runner_for_good (λ x y g. ap (λ (q : Runner). q.id) g) _ runner s.runners s.next.runner i.runners_rise i.runner_below has refl));
-  file = λ _ _ project text has. inl (with_projects s i _ _ (put_in (λ (p : Project). p.id) project_for_good (λ x y g. ap (λ (p : Project). p.id) g) _ project s.projects s.next.project i.projects_rise i.project_below has refl));
-  variables = λ _ _ vs. inl rests;
-  modes = λ _ _ new is ms. inl rests;
+  aside = λ _ _ t by. inl (beside t by);
   pipeline = λ new now is project text laid claims rows asked has named file lays fits. inl (enters s new project (given_in s new) now text laid i has named lays);
   granted = λ token is runner job q variables now seed found offered has_runner has_job pending is_queued free.
       let its_job : job.id ≡ q.job.id = ap (λ (w : QueuedJob). w.job.id) is_queued in
@@ -381,6 +357,13 @@ goes s board e i jr r b = record {
 } where
   rests : Next s s
   rests = with_attempts s i s.attempts s.next.attempt (same_attempts s s.jobs)
+
+  beside : (t : State) → IsAside s e t → Next s (record s { projects = t.projects; runners = t.runners; next = record s.next { project = t.next.project; runner = t.next.runner } })
+  beside _ (project_made name seed) = with_projects s i _ _ (new_in (λ (p : Project). p.id) project_for_good _ s.projects i.projects_rise i.project_below)
+  beside _ (runner_made new seed) = with_runners s i _ _ (new_in (λ (q : Runner). q.id) runner_for_good _ s.runners i.runners_rise i.runner_below)
+  beside _ (runner_stands runner paused has) = with_runners s i _ _ (put_in (λ (q : Runner). q.id) runner_for_good (λ x y g. ap (λ (q : Runner). q.id) g) _ runner s.runners s.next.runner i.runners_rise i.runner_below has refl)
+  beside _ (file_stands project text has) = with_projects s i _ _ (put_in (λ (p : Project). p.id) project_for_good (λ x y g. ap (λ (p : Project). p.id) g) _ project s.projects s.next.project i.projects_rise i.project_below has refl)
+  beside _ by = rests
 
 pub follows : (s : State) (board : List BoardRow) (e : Event) (now : ℕ) (seed : Seed) (a : Answer) (changes : List RowChange) → Linked s → Rising (λ (w : Job). w.id) 0 s.jobs → Rising (λ (w : Attempt). w.id) 0 s.attempts → Below (λ (w : Attempt). w.id) s.next.attempt s.attempts
     → Happens s board e now seed a changes → Follows s e a (applied changes s)

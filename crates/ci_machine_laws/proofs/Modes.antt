@@ -1,13 +1,13 @@
 -- A request that sets the process mode of a resource group changes that of no other group, and nothing else; and no other event changes one.
 use Rattle.ci_machine_laws.proofs.Prelude.{◌≡◌, ℕ, Bool, true, false, cond, ◌==◌, ◌&&◌, not, List, [], ◌∷◌, filter, find, Option, Some, None, option_map, Result, Ok, Err}
 use Rattle.ci_machine_laws.proofs.Prelude.{Ordering, Equal, nat_cmp, is_eq, is_lt, refl, sym, ap, subst, ◌∙◌, inl, inr, ⊎_elim, eqb-true, eq-eqb, bytes_eq, slice_cmp, cond_both}
-use Rattle.ci_machine_laws.proofs.Prelude.{cond-true, cond-false, cases_Bool, both_ways, and_parts, is_eq-slice_cmp, bytes_eq-Decides, Has, has_filter, same, equal, find_implied}
-use Rattle.std.specs.Ordering.{ordering_then}
+use Rattle.ci_machine_laws.proofs.Prelude.{cond-true, cond-false, cases_Bool, both_ways, and_parts, bytes_eq-Decides, Has, has_filter, same, equal, find_implied, ordering_then}
+use Rattle.std.proofs.lemmas.Map.Text.{is_eq-slice_cmp}
 use Rattle.ci_machine_steps.specs.Prelude.{BoardRow, Project, GroupMode, GroupOrder, NewMode, SetMode, Event, Seed, Answer, Code, State, placed, mode_cmp, applied, is_mode_of}
 use Rattle.ci_machine_steps.specs.Prelude.{Plan, mode_change, set_mode, Step, IsReached, IsRefusal}
 use Rattle.ci_machine_laws.specs.Modes.{SetsMode}
 use Rattle.ci_machine_laws.proofs.EachPlan.{Asked, of_asked, is_asked}
-use Rattle.ci_machine_laws.proofs.EachNext.{EachNext, next_is}
+use Rattle.ci_machine_laws.proofs.EachNext.{EachNext, IsAside, modes_are, next_is}
 use Rattle.ci_machine_laws.proofs.Reached.{reached}
 
 -- ---- keys
@@ -123,19 +123,17 @@ sets_mode s t new now seed (Answer.Swept swept) step fine = absurd step.happens
 keeps : (s : State) (board : List BoardRow) (e : Event) → ((new : NewMode) → e ≡ Event.Request (SetMode new) → ⊥) → EachNext s board e (λ _ t. t.modes ≡ s.modes)
 keeps s board e other = record {
   stays = λ _ _. refl;
-  project = λ _ _ name seed. refl;
-  runner = λ _ _ new seed. refl;
-  paused = λ _ _ runner paused has. refl;
-  file = λ _ _ project text has. refl;
-  variables = λ _ _ vs. refl;
-  modes = λ _ _ new is ms. absurd (other new is);
+  aside = λ _ _ t by. beside t by;
   pipeline = λ new now is project text laid claims rows asked has named file lays fits. refl;
   granted = λ token is runner job q variables now seed found offered has_runner has_job pending is_queued free. refl;
   alters = λ _ _ old seen state has live. refl;
   grown = λ part is old at size has its live. refl;
   acted = λ _ _ changes act. refl;
   pruned = λ p before is found. refl;
-}
+} where
+  beside : (t : State) → IsAside s e t → t.modes ≡ s.modes
+  beside _ (modes_are new is ms) = absurd (other new is)
+  beside _ by = refl
 
 pub modes_stay : (s t : State) (e : Event) (now : ℕ) (seed : Seed) (a : Answer) → IsReached s → ((new : NewMode) → e ≡ Event.Request (SetMode new) → ⊥) → Step s e now seed a t → t.modes ≡ s.modes
 modes_stay s t e now seed a reaches other step =

@@ -1,9 +1,10 @@
 -- The statuses of each reached state are one assignment.
-use Rattle.ci_machine_laws.proofs.Prelude.{◌≡◌, ◌⊎◌, ℕ, zero, suc, ◌+◌, ◌^◌, ◌<◌, ◌≤◌, Bool, true, cond, ◌==◌, ◌||◌, nat_lt, List, [], ◌∷◌, length, map, filter, count_by, All}
-use Rattle.ci_machine_laws.proofs.Prelude.{Contains, refl, sym, ap, subst, ◌∙◌, inl, inr, ⊎_elim, arith, eq-eqb, eqb-true, lt-ltb, cases_Bool, cases_lt, false≢true, cond-true}
-use Rattle.ci_machine_laws.proofs.Prelude.{cond-false, le-ltb, get_or-map, length-map, get_or-map-range_with_len, number_at, list_at, times, once, is_among, distinct, IsOrder}
+use Rattle.ci_machine_laws.proofs.Prelude.{rising_from, ◌≡◌, ◌⊎◌, ℕ, zero, suc, ◌+◌, ◌^◌, ◌<◌, ◌≤◌, Bool, true, cond, ◌==◌, ◌||◌, nat_lt, List, [], ◌∷◌, length, map, filter}
+use Rattle.ci_machine_laws.proofs.Prelude.{count_by, All, Contains, refl, sym, ap, subst, ◌∙◌, inl, inr, ⊎_elim, arith, eq-eqb, eqb-true, lt-ltb, cases_Bool, cases_lt}
+use Rattle.ci_machine_laws.proofs.Prelude.{false≢true, cond-true, cond-false, le-ltb, get_or-map, length-map, number_at, list_at, times, once, is_among, distinct, IsOrder}
 use Rattle.ci_machine_laws.proofs.Prelude.{IsStuck, AreWithin, IsWalk, IsAcyclic, firsts_of, has_pair, JobGraph, IsJobGraph, part_at, predecessors_of, row_at, Has, Rising, Below}
 use Rattle.ci_machine_laws.proofs.Prelude.{rising_filter, has_filter, filter_has, find_has, has_map, map_has, contains_from_has, has_from_contains, has_from_all, All-from_has}
+use Rattle.std.proofs.lemmas.List.FromFn.{get_or-map-range_with_len}
 use Rattle.std.proofs.lemmas.List.Sums.{sum_by-cons}
 use Rattle.ci_graph.proofs.Steps.{Neighbours, Progress, sources, released, IsReady}
 use Rattle.ci_graph.proofs.Counts.{times_here, times_more, once_yes}
@@ -32,39 +33,26 @@ rising_numbers id low (x ∷ xs) r = (r.0, rising_numbers id (id x + 1) xs r.1)
 place_cons : (x : ℕ) (xs : List ℕ) (n : ℕ) → place_in (x ∷ xs) n ≡ cond {A = ℕ} (nat_lt x n) 1 0 + place_in xs n
 place_cons x xs n = sum_by-cons (λ m. cond (nat_lt m n) 1 0) x xs
 
-pub none_below : (n low : ℕ) (xs : List ℕ) → n ≤ low → Rising (λ m. m) low xs → place_in xs n ≡ 0
-none_below n low [] l r = refl
-none_below n low (x ∷ xs) l r =
-    let first : cond {A = ℕ} (nat_lt x n) 1 0 ≡ 0 = cond-false (nat_lt x n) 1 0 (le-ltb x n (omega (arith, r.0))) in
-    let all : place_in (x ∷ xs) n ≡ cond {A = ℕ} (nat_lt x n) 1 0 + place_in xs n = place_cons x xs n in
-    let rest : place_in xs n ≡ 0 = none_below n (x + 1) xs (omega (arith, r.0)) r.1 in
-    omega arith
+place_past : (x : ℕ) (xs : List ℕ) (n : ℕ) → n ≤ x → place_in (x ∷ xs) n ≡ place_in xs n
+place_past x xs n l = let none : cond {A = ℕ} (nat_lt x n) 1 0 ≡ 0 = cond-false (nat_lt x n) 1 0 (le-ltb x n l) in omega (arith, place_cons x xs n)
 
-pub from_low : (n low : ℕ) (xs : List ℕ) → Rising (λ m. m) low xs → Has n xs → low ≤ n
-from_low n low [] r h = absurd h
-from_low n low (x ∷ xs) r h =
-    ⊎_elim
-    (λ (e : n ≡ x). let l : low ≤ x = r.0 in omega arith)
-    (λ m. let k : x + 1 ≤ n = from_low n (x + 1) xs r.1 m in let l : low ≤ x = r.0 in omega arith) h
+place_next : (x : ℕ) (xs : List ℕ) (n : ℕ) → x < n → place_in (x ∷ xs) n ≡ suc (place_in xs n)
+place_next x xs n l = let one : cond {A = ℕ} (nat_lt x n) 1 0 ≡ 1 = cond-true (nat_lt x n) 1 0 (lt-ltb x n l) in omega (arith, place_cons x xs n)
+
+none_below : (n low : ℕ) (xs : List ℕ) → n ≤ low → Rising (λ m. m) low xs → place_in xs n ≡ 0
+none_below n low [] l r = refl
+none_below n low (x ∷ xs) l r = place_past x xs n (omega (arith, r.0)) ∙ none_below n (x + 1) xs (omega (arith, r.0)) r.1
 
 -- a number of the list stands at its place
 at_place : (n low : ℕ) (xs : List ℕ) → Rising (λ m. m) low xs → Has n xs → (place_in xs n < length xs) × (number_at xs (place_in xs n) ≡ n)
 at_place n low [] r h = absurd h
 at_place n low (x ∷ xs) r h =
-    let all : place_in (x ∷ xs) n ≡ cond {A = ℕ} (nat_lt x n) 1 0 + place_in xs n = place_cons x xs n in
+    let At : ℕ → Type 0 = λ k. (k < length (x ∷ xs)) × (number_at (x ∷ xs) k ≡ n) in
     ⊎_elim
-    (λ (e : n ≡ x).
-    let first : cond {A = ℕ} (nat_lt x n) 1 0 ≡ 0 = cond-false (nat_lt x n) 1 0 (le-ltb x n (omega arith)) in
-    let rest : place_in xs n ≡ 0 = none_below n (x + 1) xs (omega arith) r.1 in
-    let is : 0 ≡ place_in (x ∷ xs) n = omega arith in
-    subst (λ k. (k < length (x ∷ xs)) × (number_at (x ∷ xs) k ≡ n)) is (omega arith, sym e))
+    (λ (e : n ≡ x). subst At (sym (place_past x xs n (omega arith) ∙ none_below n (x + 1) xs (omega arith) r.1)) (omega arith, sym e))
     (λ m.
-    let above : x + 1 ≤ n = from_low n (x + 1) xs r.1 m in
-    let first : cond {A = ℕ} (nat_lt x n) 1 0 ≡ 1 = cond-true (nat_lt x n) 1 0 (lt-ltb x n (omega arith)) in
     let w = at_place n (x + 1) xs r.1 m in
-    let below : place_in xs n < length xs = w.0 in
-    let is : suc (place_in xs n) ≡ place_in (x ∷ xs) n = omega arith in
-    subst (λ k. (k < length (x ∷ xs)) × (number_at (x ∷ xs) k ≡ n)) is (omega arith, w.1))
+    subst At (sym (place_next x xs n (omega (arith, rising_from (λ v. v) n (x + 1) xs r.1 m)))) (omega (arith, w.0), w.1))
     h
 
 has_number : (k : ℕ) (xs : List ℕ) → k < length xs → Has (number_at xs k) xs
@@ -75,18 +63,10 @@ has_number (suc k) (x ∷ xs) l = inr (has_number k xs (omega arith))
 -- and the number at a place has that place
 place_of : (k low : ℕ) (xs : List ℕ) → Rising (λ m. m) low xs → k < length xs → place_in xs (number_at xs k) ≡ k
 place_of k low [] r l = absurd (omega arith)
-place_of zero low (x ∷ xs) r l =
-    let all : place_in (x ∷ xs) x ≡ cond {A = ℕ} (nat_lt x x) 1 0 + place_in xs x = place_cons x xs x in
-    let first : cond {A = ℕ} (nat_lt x x) 1 0 ≡ 0 = cond-false (nat_lt x x) 1 0 (le-ltb x x (omega arith)) in
-    let rest : place_in xs x ≡ 0 = none_below x (x + 1) xs (omega arith) r.1 in
-    omega arith
+place_of zero low (x ∷ xs) r l = place_past x xs x (omega arith) ∙ none_below x (x + 1) xs (omega arith) r.1
 place_of (suc k) low (x ∷ xs) r l =
-    let n = number_at xs k in
-    let all : place_in (x ∷ xs) n ≡ cond {A = ℕ} (nat_lt x n) 1 0 + place_in xs n = place_cons x xs n in
-    let above : x + 1 ≤ n = from_low n (x + 1) xs r.1 (has_number k xs (omega arith)) in
-    let first : cond {A = ℕ} (nat_lt x n) 1 0 ≡ 1 = cond-true (nat_lt x n) 1 0 (lt-ltb x n (omega arith)) in
-    let rest : place_in xs n ≡ k = place_of k (x + 1) xs r.1 (omega arith) in
-    omega arith
+    let above = rising_from (λ v. v) (number_at xs k) (x + 1) xs r.1 (has_number k xs (omega arith)) in
+    place_next x xs (number_at xs k) (omega (arith, above)) ∙ ap suc (place_of k (x + 1) xs r.1 (omega arith))
 
 pub among_is : (xs : List ℕ) (n : ℕ) → is_among xs n ≡ true → Has n xs
 among_is [] n e = absurd (false≢true e)

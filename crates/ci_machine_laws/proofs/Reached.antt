@@ -2,15 +2,15 @@
 use Rattle.ci_machine_laws.proofs.Prelude.{◌≡◌, ◌⊎◌, ℕ, ◌<◌, ◌≤◌, Bool, true, false, ◌==◌, ◌&&◌, List, [], ◌∷◌, if◌then◌else◌, Some, refl, sym, ap, subst, ◌∙◌, inl, inr, ⊎_elim}
 use Rattle.ci_machine_laws.proofs.Prelude.{arith, bytes_eq, both_ways, cases_Bool, bytes_eq-Decides, Has, Rising, rising_put, has_put, rising_filter, has_filter, filter_has}
 use Rattle.ci_machine_laws.proofs.Prelude.{has_find, least_find, find-map, one_at, All-from_has, contains_from_has, put_all, attempt_was, attempt_left, trace_left}
-use Rattle.ci_machine_steps.specs.Prelude.{BoardRow, Runner, Job, JobVariable, QueuedJob, Attempt, TracePart, Event, AskJob, AppendTrace, Seed, Answer, State, applied, put}
-use Rattle.ci_machine_steps.specs.Prelude.{job_cmp, attempt_cmp, jobs_of, AreBoard, is_live, is_eligible, chosen, groups_in, creation, pipeline_created, granted, grown}
+use Rattle.ci_machine_steps.specs.Prelude.{is_grant, BoardRow, Runner, Job, JobVariable, QueuedJob, Attempt, TracePart, Event, AskJob, AppendTrace, Seed, Answer, State, applied}
+use Rattle.ci_machine_steps.specs.Prelude.{put, job_cmp, attempt_cmp, jobs_of, AreBoard, is_live, is_eligible, chosen, groups_in, creation, pipeline_created, granted, grown}
 use Rattle.ci_machine_steps.specs.Prelude.{is_job_among, pruned_reply, without_pipeline, runner_with, last_attempt, is_pending, pending_jobs, queued, queue, Past, Leads, grants}
 use Rattle.ci_machine_steps.specs.Prelude.{accepted_bytes}
 use Rattle.ci_machine_laws.proofs.Grants.{Grants, grants_empty, live_last}
 use Rattle.ci_machine_laws.proofs.Pending.{pending_free}
 use Rattle.ci_machine_laws.proofs.PutAll.{rising_all, has_still}
 use Rattle.ci_machine_laws.proofs.EachPlan.{given_in}
-use Rattle.ci_machine_laws.proofs.EachNext.{IsQuiet, EachNext, next_is}
+use Rattle.ci_machine_laws.proofs.EachNext.{EachNext, next_is}
 use Rattle.ci_machine_laws.proofs.Gone.{goes_with}
 use Rattle.ci_machine_laws.proofs.Ends.{Ends}
 use Rattle.ci_machine_laws.proofs.Traces.{Traces, Was, IsNew, same, traces_empty}
@@ -93,13 +93,8 @@ known s b w = inl (w.old, (w.has, w.id))
 
 each : (h : List Past) (s : State) (board : List BoardRow) (e : Event) (now : ℕ) (seed : Seed) → AreBoard s board → Inv h s → EachNext s board e (On h s e now seed)
 each h s board e now seed are i = record {
-  stays = λ a quiet. keeps a (isnt a quiet) quiet.1 s refl refl refl i.grants.jobs_rise;
-  project = λ a quiet name given. keeps a (isnt a quiet) quiet.1 _ refl refl refl i.grants.jobs_rise;
-  runner = λ a quiet new given. keeps a (isnt a quiet) quiet.1 _ refl refl refl i.grants.jobs_rise;
-  paused = λ a quiet runner paused has. keeps a (isnt a quiet) quiet.1 _ refl refl refl i.grants.jobs_rise;
-  file = λ a quiet project text has. keeps a (isnt a quiet) quiet.1 _ refl refl refl i.grants.jobs_rise;
-  variables = λ a quiet vs. keeps a (isnt a quiet) quiet.1 _ refl refl refl i.grants.jobs_rise;
-  modes = λ a quiet new is ms. keeps a (isnt a quiet) quiet.1 _ refl refl refl i.grants.jobs_rise;
+  stays = λ a quiet. keeps a (isnt a quiet.0) quiet.1 s refl refl refl i.grants.jobs_rise;
+  aside = λ a done t by. keeps a (isnt a done.0) done.1 _ refl refl refl i.grants.jobs_rise;
   pipeline = λ new at is project text laid claims rows asked has named file lays fits.
       let made = creation s.next.pipeline s.next.job new (given_in s new) at laid in
       let answer = Answer.Reply (pipeline_created s.next.job made claims rows).0 in
@@ -112,7 +107,7 @@ each h s board e now seed are i = record {
       let x = record old { seen = seen; state = state } in
       let t : State = record s { attempts = put attempt_cmp x s.attempts } in
       record {
-        grants = leased.stand h s t p i.grants (isnt a quiet) (leased.stood_put s x old has refl refl refl live) (rising_put (λ (b : Attempt). b.id) x 0 s.attempts i.grants.rise (omega arith)) refl i.grants.jobs_rise;
+        grants = leased.stand h s t p i.grants (isnt a quiet.0) (leased.stood_put s x old has refl refl refl live) (rising_put (λ (b : Attempt). b.id) x 0 s.attempts i.grants.rise (omega arith)) refl i.grants.jobs_rise;
         traces = trace.stays h s t p i.traces quiet.1 refl (omega arith) (in_place s old x has refl);
         ends = finals.puts h s t p x refl i.ends (omega arith, in_place s old x has refl) refl (only_live i old has live refl);
       };
@@ -124,7 +119,7 @@ each h s board e now seed are i = record {
       let t : State = record s { jobs = put_all job_cmp act.jobs s.jobs; attempts = put_all attempt_cmp act.attempts s.attempts } in
       let stood = leased.stood_act s changes act in
       record {
-        grants = leased.stand h s t p i.grants (isnt a quiet) stood
+        grants = leased.stand h s t p i.grants (isnt a quiet.0) stood
             (rising_all (λ (b : Attempt). b.id) act.attempts s.attempts i.grants.rise) refl (rising_all (λ (j : Job). j.id) act.jobs s.jobs i.grants.jobs_rise);
         traces = trace.stays h s t p i.traces quiet.1 refl (omega arith) (λ b k. known s b (stood b k));
         ends = finals.leaves_ended h s t p refl i.ends (omega arith, λ b k. known s b (stood b k)) (λ b k ended. has_still (λ (c : Attempt). c.id) act.attempts s.attempts b k
@@ -159,8 +154,8 @@ each h s board e now seed are i = record {
             (cases_Bool (is_job_among (jobs_of s n) a.job)));
       };
 } where
-  isnt : (a : Answer) → IsQuiet e a → (n : ℕ) → grants n (line s e now seed a) ≡ false
-  isnt a quiet n = ap (λ b. b && (s.next.attempt == n)) quiet.0
+  isnt : (a : Answer) → is_grant e a ≡ false → (n : ℕ) → grants n (line s e now seed a) ≡ false
+  isnt a none n = ap (λ b. b && (s.next.attempt == n)) none
 
   -- a step that leaves attempts and traces
   keeps : (a : Answer) → ((n : ℕ) → grants n (line s e now seed a) ≡ false) → ((n : ℕ) → accepted_bytes n e a ≡ []) → (t : State)

@@ -1,10 +1,10 @@
 -- The resource groups that are told of a project are those that have a process mode or are held.
 use Rattle.ci_machine_laws.proofs.Prelude.{◌≡◌, ◌⊎◌, ℕ, true, not, ◌==◌, ◌&&◌, List, [], ◌∷◌, map, find, flat_map, Option, Some, None, option_map, option_and_then, Result, Ok}
 use Rattle.ci_machine_laws.proofs.Prelude.{Err, nat_cmp, is_eq, Ordering, Less, refl, sym, ap, subst, ◌∙◌, inl, inr, ⊎_elim, eqb-true, eq-eqb, bytes_eq, slice_cmp, Equal-is}
-use Rattle.ci_machine_laws.proofs.Prelude.{cases_Bool, both_ways, and_parts, nat_list_cmp_total, is_eq-slice_cmp, bytes_eq-Decides, Has, Rising, has_put, put_has, has_filter}
-use Rattle.ci_machine_laws.proofs.Prelude.{filter_has, has_map, map_has, has_find, find_has, All-from_has, contains_from_has, has_from_contains, equal, any_has, has_any}
-use Rattle.ci_machine_laws.proofs.Prelude.{in_either, has_left, has_right, Ordered, filter_ordered, put_ordered, rising_from_ascend}
-use Rattle.std.specs.Ordering.{ordering_then}
+use Rattle.ci_machine_laws.proofs.Prelude.{cases_Bool, both_ways, and_parts, nat_list_cmp_total, bytes_eq-Decides, Has, Rising, has_put, put_has, has_filter, filter_has, has_map}
+use Rattle.ci_machine_laws.proofs.Prelude.{map_has, has_find, find_has, All-from_has, contains_from_has, has_from_contains, equal, any_has, has_any, in_either, has_left}
+use Rattle.ci_machine_laws.proofs.Prelude.{has_right, Ordered, filter_ordered, put_ordered, rising_from_ascend, ordering_then}
+use Rattle.std.proofs.lemmas.Map.Text.{is_eq-slice_cmp}
 use Rattle.ci_machine_steps.specs.Prelude.{Project, Attempt, BoardRow, GroupMode, Holder, QueuedJob, Event, Read, ReadQuery, Subject, Seed, Code, Reply, Answer, State, mode_cmp}
 use Rattle.ci_machine_steps.specs.Prelude.{put, attempt_at, live_attempts, is_live, holds, group_held, held_by, held_of, queued_at, holders, holders_in, modes_in, Plan}
 use Rattle.ci_machine_steps.specs.Prelude.{with_names, group_names, read, Step, IsReached}
