@@ -1,9 +1,8 @@
 -- All that holds of every state that a history leads to.
-use Rattle.ci_machine_laws.proofs.Prelude.{◌≡◌, ◌⊎◌, true, false, List, [], ◌∷◌, map, Contains, refl, sym, subst, inl, inr, ⊎_elim, arith, Has, has_filter, All-from_has}
+use Rattle.ci_machine_laws.proofs.Prelude.{rules, ◌≡◌, ◌⊎◌, true, false, List, [], ◌∷◌, map, Contains, refl, sym, subst, inl, inr, ⊎_elim, arith, Has, has_filter, All-from_has}
 use Rattle.ci_machine_laws.proofs.Prelude.{contains_from_has, has_from_contains, has_map}
-use Rattle.ci_machine_steps.specs.Prelude.{BoardRow, Pipeline, Job, Attempt, State, empty, AreBoard, is_live, Past, Leads, grants, WasGranted, IsTraced, WasPruned}
-use Rattle.ci_machine_steps.specs.Prelude.{WentWithItsJob, EndsStay, Stay, project_for_good, runner_for_good, job_for_good, attempt_for_good, Stays, IsSweptBy, IsPrunedBy}
-use Rattle.ci_machine_steps.specs.Prelude.{is_grant, GivesInOrder, Laws}
+use Rattle.ci_machine_steps.specs.Prelude.{BoardRow, Attempt, State, empty, AreBoard, is_live, Past, Leads, grants, WasGranted, IsTraced, WentWithItsJob, EndsStay, Stay, Stays}
+use Rattle.ci_machine_steps.specs.Prelude.{IsSweptBy, IsPrunedBy, is_grant, GivesInOrder, Laws}
 use Rattle.ci_machine_laws.proofs.Included.{was_included}
 use Rattle.ci_machine_laws.proofs.Grants.{WasGiven, one_lease}
 use Rattle.ci_machine_laws.proofs.Reached.{reached}
@@ -18,13 +17,7 @@ stay f HasGone xs ys k = All-from_has _ xs (λ x m. ⊎_elim
     (k x m))
 
 stays_from : (h : List Past) (s t : State) → Since h s t → Stays h s t
-stays_from h s t l = record {
-  projects = stay project_for_good (λ _. ⊥) s.projects t.projects l.projects;
-  runners = stay runner_for_good (λ _. ⊥) s.runners t.runners l.runners;
-  pipelines = stay (λ p. p) (λ (p : Pipeline). WasPruned h p.id) s.pipelines t.pipelines l.pipelines;
-  jobs = stay job_for_good (λ (j : Job). WasPruned h j.pipeline) s.jobs t.jobs l.jobs;
-  attempts = stay attempt_for_good (WentWithItsJob h) s.attempts t.attempts l.attempts;
-}
+stays_from h s t l = search (rules, stay)
 
 -- the rows of nothing
 no_rows : AreBoard empty []

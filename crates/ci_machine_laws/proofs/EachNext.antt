@@ -1,7 +1,7 @@
 -- What holds of each state that an event leads to, by what the step changes: so a refusal changes nothing, and the machine answers neither M16
 -- nor M17.
-use Rattle.ci_machine_laws.proofs.Prelude.{◌≡◌, ℕ, ◌==◌, Bool, List, [], length, not, nat_lt, true, false, Option, None, Some, option_map, Result, Ok, Err, ◌∷◌, refl, sym, ap}
-use Rattle.ci_machine_laws.proofs.Prelude.{subst, ⊎_elim, eqb-true, bytes_eq, cond_both, and_parts, false≢true, MAX_TAGS, Has, has_filter, has_find, find-map, ◌&&◌}
+use Rattle.ci_machine_laws.proofs.Prelude.{rules, ◌≡◌, ℕ, ◌==◌, Bool, List, [], length, not, nat_lt, true, false, Option, None, Some, option_map, Result, Ok, Err, ◌∷◌, refl, sym}
+use Rattle.ci_machine_laws.proofs.Prelude.{ap, subst, ⊎_elim, eqb-true, bytes_eq, cond_both, and_parts, false≢true, MAX_TAGS, Has, has_filter, has_find, find-map, ◌&&◌}
 use Rattle.ci_machine_laws.proofs.Prelude.{if◌then◌else◌, Failed, Rising, put_all, created_state, after_creation, pruned_state}
 use Rattle.ci_machine_steps.specs.Prelude.{RunnerPause, BoardRow, Project, Pipeline, Job, Attempt, AttemptState, Lease, LeaseFault, NotLive, LeaseOver, PieceFault, Unleased}
 use Rattle.ci_machine_steps.specs.Prelude.{WrongOffset, TraceFull, Runner, QueuedJob, JobVariable, Row, Variable, Claim, GroupMode, NewRunner, NewMode, NewPipeline, Event}
@@ -263,18 +263,7 @@ abbrev IsSafe : State → Answer → State → Type 0
 IsSafe s a t = (IsRefusal a → t ≡ s) × (outcome_of a ≡ Stepped)
 
 all_safe : (s : State) (board : List BoardRow) (e : Event) → EachStep s board e (gone s) (IsSafe s)
-all_safe s board e = record {
-  stays = λ a quiet. (λ _. refl, quiet.2);
-  aside = λ a done t by. did a _ done.2 done.3;
-  pipeline = λ new now is project text laid claims rows asked has named file lays fits. (λ r. absurd (false≢true r), refl);
-  granted = λ token is runner job q variables now seed found offered h k m e f. (λ r. absurd (false≢true r), refl);
-  alters = λ a done old seen state has live. did a _ done.2 done.3;
-  grown = λ part is old now size has its live. (λ r. absurd (false≢true r), refl);
-  acted = λ a done changes act. did a _ done.2 done.3;
-  pruned = λ p before is found. (λ r. absurd (false≢true r), refl);
-} where
-  did : (a : Answer) (t : State) → outcome_of a ≡ Stepped → (IsRefusal a → ⊥) → IsSafe s a t
-  did a t stepped unrefused = (λ r. absurd (unrefused r), stepped)
+all_safe s board e = search (rules, false≢true)
 
 safe : (s t : State) (e : Event) (now : ℕ) (seed : Seed) (a : Answer) → Step s e now seed a t → IsSafe s a t
 safe s t e now seed a step = subst (IsSafe s a) (sym step.state) (step_is s step.before (IsSafe s) e now seed a step.changes (all_safe s step.before e) step.happens)

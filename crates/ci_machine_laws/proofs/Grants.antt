@@ -3,7 +3,7 @@ use Rattle.ci_machine_laws.proofs.Prelude.{◌≡◌, ◌⊎◌, ℕ, ◌+◌, �
 use Rattle.ci_machine_laws.proofs.Prelude.{eqb-true, eq-eqb, cond-true, cond-false, and_parts, put_all, Has, Rising, has_put, rising_put, rising_filter, has_filter, filter_has}
 use Rattle.ci_machine_laws.proofs.Prelude.{last_greatest, count_one}
 use Rattle.std.proofs.lemmas.Bool.{ne_eqb}
-use Rattle.ci_machine_steps.specs.Prelude.{Runner, Job, Attempt, Event, AskJob, State, empty, attempt_cmp, put, attempts_of, is_live, last_attempt, Past, grants, IsLeastEligible}
+use Rattle.ci_machine_steps.specs.Prelude.{Runner, Job, Attempt, Event, AskJob, State, attempt_cmp, put, attempts_of, is_live, last_attempt, Past, grants, IsLeastEligible}
 use Rattle.ci_machine_steps.specs.Prelude.{OneLease, RowChange}
 use Rattle.ci_machine_laws.proofs.Acts.{IsAct, came}
 
@@ -45,16 +45,6 @@ live_last h s i a k live =
     let its = λ (b : Attempt). b.job == a.job in
     last_greatest (λ (b : Attempt). b.id) a None 0 (attempts_of s a.job) (rising_filter (λ (b : Attempt). b.id) its 0 s.attempts i.rise) (filter_has its a s.attempts k (eq-eqb a.job a.job refl))
     (λ b m. let w = has_filter its b s.attempts m in i.is_last a b k w.0 live (sym (eqb-true b.job a.job w.1)))
-
-pub grants_empty : Grants [] empty
-grants_empty = record {
-  jobs_rise = tt;
-  rise = tt;
-  below = λ a k. absurd k;
-  is_last = λ a b k. absurd k;
-  granted = λ a k. absurd k;
-  fresh = λ n l. refl;
-}
 
 -- a line that grants another number, where the attempt has its number, job and runner still
 longer : (p : Past) (h : List Past) (a b : Attempt) → grants b.id p ≡ false → a.id ≡ b.id → a.job ≡ b.job → a.runner ≡ b.runner → WasGiven h a → WasGiven (p ∷ h) b

@@ -1,8 +1,7 @@
 -- What stays, which records others name, which jobs wait for which, and what sweeps end and requests prune, in every state that a history
 -- leads to.
-use Rattle.ci_machine_laws.proofs.Prelude.{◌≡◌, true, List, [], ◌∷◌, sym, subst, ⊎_elim, arith, Has, All-from_has, contains_named, Ordered, changes_ordered, gives_in_order}
-use Rattle.ci_machine_steps.specs.Prelude.{Project, Runner, Pipeline, Job, State, empty, applied, job_variable_cmp, Past, Leads, IsLinked, IsSweptBy, IsPrunedBy, is_grant}
-use Rattle.ci_machine_steps.specs.Prelude.{GivesInOrder}
+use Rattle.ci_machine_laws.proofs.Prelude.{rules, ◌≡◌, true, List, [], ◌∷◌, sym, subst, ⊎_elim, Has, All-from_has, contains_named, Ordered, changes_ordered, gives_in_order}
+use Rattle.ci_machine_steps.specs.Prelude.{State, applied, job_variable_cmp, Past, Leads, IsLinked, IsSweptBy, IsPrunedBy, is_grant, GivesInOrder}
 use Rattle.ci_machine_laws.proofs.EachNext.{next_is}
 use Rattle.ci_machine_laws.proofs.Reached.{reached}
 use Rattle.ci_machine_laws.proofs.Linked.{Linked, linked_on, follows}
@@ -20,37 +19,8 @@ pub record Held (h : List Past) (s : State) : Type 0 where
   pub variables : Ordered job_variable_cmp s.job_variables
   pub in_order : (p : Past) → Has p h → is_grant p.event p.answer ≡ true → GivesInOrder p.before p.answer
 
-linked_empty : Linked empty
-linked_empty = record {
-  projects_rise = tt;
-  runners_rise = tt;
-  pipelines_rise = tt;
-  project_below = λ w k. absurd k;
-  runner_below = λ w k. absurd k;
-  pipeline_below = λ w k. absurd k;
-  job_below = λ w k. absurd k;
-  attempt_job = λ w k. absurd k;
-  attempt_runner = λ w k. absurd k;
-  job_pipeline = λ w k. absurd k;
-  pipeline_project = λ w k. absurd k;
-  need_job = λ w k. absurd k;
-  need_pred = λ w k. absurd k;
-  first_job = omega arith;
-  positive = λ w k. absurd k;
-  aside = λ w k. absurd k;
-  in_turn = λ a b k. absurd k;
-}
-
 pub held : (h : List Past) (s : State) → Leads h s → Held h s
-held [] s l = subst (Held []) (sym l) (record {
-  linked = linked_empty;
-  joined = joined_none;
-  stays = λ p k. absurd k;
-  swept = λ p k. absurd k;
-  pruned = λ p k. absurd k;
-  variables = tt;
-  in_order = λ p k. absurd k;
-})
+held [] s l = subst (Held []) (sym l) (search (rules, joined_none))
 held (p ∷ h) s l =
     let i = held h p.before l.0 in
     let g = (reached h p.before l.0).grants in
@@ -74,11 +44,4 @@ held (p ∷ h) s l =
     also P newest others q k = ⊎_elim (λ e. subst P (sym e) newest) (others q) k
 
 pub is_linked : (s : State) → Linked s → IsLinked s
-is_linked s i = record {
-  attempt_job = All-from_has _ s.attempts (λ a k. contains_named (λ (j : Job). j.id) a.job s.jobs (i.attempt_job a k));
-  attempt_runner = All-from_has _ s.attempts (λ a k. contains_named (λ (r : Runner). r.id) a.runner s.runners (i.attempt_runner a k));
-  job_pipeline = All-from_has _ s.jobs (λ j k. contains_named (λ (p : Pipeline). p.id) j.pipeline s.pipelines (i.job_pipeline j k));
-  pipeline_project = All-from_has _ s.pipelines (λ p k. contains_named (λ (q : Project). q.id) p.project s.projects (i.pipeline_project p k));
-  need_job = All-from_has _ s.needs (λ w k. contains_named (λ (j : Job). j.id) w.job s.jobs (i.need_job w k));
-  need_pred = All-from_has _ s.needs (λ w k. contains_named (λ (j : Job). j.id) w.pred s.jobs (i.need_pred w k));
-}
+is_linked s i = search (rules, All-from_has, contains_named, i.attempt_job, i.attempt_runner, i.job_pipeline, i.pipeline_project, i.need_job, i.need_pred)

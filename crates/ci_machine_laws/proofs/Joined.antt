@@ -1,11 +1,10 @@
 -- Which jobs wait for which, before each step and after it: those of one pipeline, and in no circle.
-use Rattle.ci_machine_laws.proofs.Prelude.{◌≡◌, ◌⊎◌, ℕ, ◌+◌, ◌<◌, ◌≤◌, List, [], ◌∷◌, ◌++◌, length, map, Contains, Result, Ok, Err, refl, sym, ap, subst, ◌∙◌, inl, inr, ⊎_elim}
-use Rattle.ci_machine_laws.proofs.Prelude.{arith, Config, Given, Plans, faulty, cyclic, IsWalk, HasWalk, IsAcyclic, GraphCode, Has, has_filter, contains_from_has}
+use Rattle.ci_machine_laws.proofs.Prelude.{rules, ◌≡◌, ◌⊎◌, ℕ, ◌+◌, ◌<◌, ◌≤◌, List, [], ◌∷◌, ◌++◌, length, map, Contains, Result, Ok, Err, refl, sym, ap, subst, ◌∙◌, inl, inr}
+use Rattle.ci_machine_laws.proofs.Prelude.{⊎_elim, arith, Config, Given, Plans, faulty, cyclic, IsWalk, HasWalk, IsAcyclic, GraphCode, Has, has_filter, contains_from_has}
 use Rattle.ci_machine_laws.proofs.Prelude.{has_from_contains, has_map, map_has, in_either, has_all, put_all, created_state, IsNew, new_are, needs_are, jobs_behind}
-use Rattle.ci_machine_steps.specs.Prelude.{BoardRow, Job, Need, RowChange, NewPipeline, Event, Detail, State, job_cmp, need_cmp, Layout, IsLaidOut, misread, unplanned, creation}
-use Rattle.ci_machine_steps.specs.Prelude.{need_of}
+use Rattle.ci_machine_steps.specs.Prelude.{without_pipeline, BoardRow, Job, Need, RowChange, NewPipeline, Event, Detail, State, job_cmp, need_cmp, Layout, IsLaidOut, misread}
+use Rattle.ci_machine_steps.specs.Prelude.{unplanned, creation, need_of}
 use Rattle.ci_machine_laws.proofs.Acts.{IsAct}
-use Rattle.ci_machine_laws.proofs.EachPlan.{given_in}
 use Rattle.ci_machine_laws.proofs.EachNext.{EachNext}
 use Rattle.ci_machine_laws.proofs.Linked.{Linked}
 use Rattle.ci_graph_layout.specs.Fault as layout
@@ -199,17 +198,11 @@ module _ (needs some : List Need) (had : (w : Need) → Has w some → Has w nee
 
 -- ---- each step
 
+left : (s : State) (n : ℕ) → Joined s.jobs s.needs → let t = without_pipeline s n in Joined t.jobs t.needs
+left s n was = leaves s.needs _ (λ w k. (has_filter _ w s.needs k).0) s.jobs _ (λ j k. (has_filter _ j s.jobs k).0) was
+
 pub joined_on : (s : State) (board : List BoardRow) (e : Event) → Linked s → Joined s.jobs s.needs → EachNext s board e (λ _ t. Joined t.jobs t.needs)
-joined_on s board e i was = record {
-  stays = λ _ _. was;
-  aside = λ _ _ t by. was;
-  pipeline = λ new now is project text laid claims rows asked has named file lays fits. enters s new (given_in s new) now text laid i was lays;
-  granted = λ token is runner job q variables now seed found offered has_runner has_job pending is_queued free. was;
-  alters = λ _ _ old seen state has live. was;
-  grown = λ part is old at size has its live. was;
-  acted = λ _ _ changes act. acts s changes act was;
-  pruned = λ p before is found. leaves s.needs _ (λ w k. (has_filter _ w s.needs k).0) s.jobs _ (λ j k. (has_filter _ j s.jobs k).0) was;
-}
+joined_on s board e i was = search (rules, enters, acts, left)
 
 no_walk : (i : ℕ) (ks : List ℕ) (j : ℕ) → IsWalk [] i ks j → ⊥
 no_walk i [] j c = has_from_contains (i, j) [] c

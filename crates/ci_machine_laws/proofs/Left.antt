@@ -1,6 +1,6 @@
 -- What is left once a pipeline is pruned, and what became of that which was there in an earlier state.
-use Rattle.ci_machine_laws.proofs.Prelude.{◌≡◌, ◌⊎◌, ℕ, ◌≤◌, true, false, ◌==◌, not, List, ◌∷◌, length, refl, sym, ap, subst, ◌∙◌, inl, inr, ⊎_elim, eqb-true, eq-eqb, ne_eqb}
-use Rattle.ci_machine_laws.proofs.Prelude.{both_ways, cases_Bool, not_true, Has, Rising, rising_filter, has_filter, filter_has, Named, among_its, job_left, job_was}
+use Rattle.ci_machine_laws.proofs.Prelude.{rules, ◌≡◌, ◌⊎◌, ℕ, ◌≤◌, true, false, ◌==◌, not, List, ◌∷◌, length, refl, sym, ap, subst, ◌∙◌, inl, inr, ⊎_elim, eqb-true, eq-eqb}
+use Rattle.ci_machine_laws.proofs.Prelude.{ne_eqb, both_ways, cases_Bool, not_true, Has, Rising, rising_filter, has_filter, filter_has, Named, among_its, job_left, job_was}
 use Rattle.ci_machine_laws.proofs.Prelude.{attempts_left, attempt_was, attempt_left}
 use Rattle.ci_machine_steps.specs.Prelude.{Pipeline, Job, Need, Attempt, State, jobs_of, is_job_among, without_pipeline, Past, project_for_good, runner_for_good, job_for_good}
 use Rattle.ci_machine_steps.specs.Prelude.{attempt_for_good, Prunes, WasPruned, WentWithItsJob}
@@ -76,13 +76,7 @@ pub record Since (h : List Past) (s t : State) : Type 0 where
   pub attempts : KeptOr attempt_for_good (WentWithItsJob h) s.attempts t.attempts
 
 since_later : (h : List Past) (s t : State) → Later s t → Since h s t
-since_later h s t l = record {
-  projects = λ x k. inl (l.projects x k);
-  runners = λ x k. inl (l.runners x k);
-  pipelines = λ x k. inl (l.pipelines x k);
-  jobs = λ x k. inl (l.jobs x k);
-  attempts = λ x k. inl (l.attempts x k);
-}
+since_later h s t l = search (rules, inl, l.projects, l.runners, l.pipelines, l.jobs, l.attempts)
 
 since_pruned : (p : Past) (h : List Past) (n : ℕ) → Rising (λ (j : Job). j.id) 0 p.before.jobs → Rising (λ (a : Attempt). a.id) 0 p.before.attempts → Prunes p n → Since (p ∷ h) p.before (without_pipeline p.before n)
 since_pruned p h n jobs_rise rise prunes =

@@ -1,6 +1,6 @@
 -- What a step leaves, and which records others name.
-use Rattle.ci_machine_laws.proofs.Prelude.{◌≡◌, ◌⊎◌, ℕ, ◌+◌, ◌<◌, ◌≤◌, Bool, ◌==◌, List, [], ◌∷◌, ◌++◌, length, map, filter, Ok, nat_cmp, is_lt, Ordering, refl, sym, ap, subst}
-use Rattle.ci_machine_laws.proofs.Prelude.{◌∙◌, inl, inr, ⊎_elim, arith, cond_both, Given, Has, Rising, has_put, same, rising_put, has_find, has_map, one_at, Below, Named}
+use Rattle.ci_machine_laws.proofs.Prelude.{rules, ◌≡◌, ◌⊎◌, ℕ, ◌+◌, ◌<◌, ◌≤◌, Bool, ◌==◌, List, [], ◌∷◌, ◌++◌, length, map, filter, Ok, nat_cmp, is_lt, Ordering, refl, sym, ap}
+use Rattle.ci_machine_laws.proofs.Prelude.{subst, ◌∙◌, inl, inr, ⊎_elim, arith, cond_both, Given, Has, Rising, has_put, same, rising_put, has_find, has_map, one_at, Below, Named}
 use Rattle.ci_machine_laws.proofs.Prelude.{nat_less, in_either, has_left, has_right, put_behind, put_all, has_all, created_state, new_length, IsNew, new_are, new_numbered}
 use Rattle.ci_machine_laws.proofs.Prelude.{needs_are, pairs_inside, jobs_behind}
 use Rattle.ci_machine_steps.specs.Prelude.{BoardRow, Need, Project, Runner, Pipeline, QueuedJob, Job, Attempt, RowChange, NewPipeline, Event, Seed, Answer, State, applied}
@@ -200,19 +200,7 @@ module _ (s : State) (i : Linked s) where
   with : (projects : List Project) (runners : List Runner) (attempts : List Attempt) (project runner attempt : ℕ) → Table (λ (p : Project). p.id) project_for_good s.projects projects project
       → Table (λ (r : Runner). r.id) runner_for_good s.runners runners runner → Attempts s attempts s.jobs
       → Next s (record s { projects = projects; runners = runners; attempts = attempts; next = record s.next { project = project; runner = runner; attempt = attempt } })
-  with projects runners attempts project runner attempt ps rs as_next = record {
-    projects = ps;
-    runners = rs;
-    pipelines = same_pipelines;
-    kept_jobs = kept job_for_good s.jobs s.jobs refl;
-    job_below = i.job_below;
-    next_job = omega arith;
-    attempts = as_next;
-    jobs = λ j k. inl k;
-    numbered = was_there s;
-    of_project = λ p k. inl k;
-    needs = λ w k. inl k;
-  }
+  with projects runners attempts project runner attempt ps rs as_next = search (rules, same_pipelines, kept, was_there, inl)
 
   with_projects : (projects : List Project) (next : ℕ) → Table (λ (p : Project). p.id) project_for_good s.projects projects next → Next s (record s { projects = projects; next = record s.next { project = next } })
   with_projects projects next ps = with projects s.runners s.attempts next s.next.runner s.next.attempt ps same_runners (same_attempts s s.jobs)

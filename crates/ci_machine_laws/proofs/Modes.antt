@@ -1,5 +1,5 @@
 -- A request that sets the process mode of a resource group changes that of no other group, and nothing else; and no other event changes one.
-use Rattle.ci_machine_laws.proofs.Prelude.{◌≡◌, ℕ, Bool, true, false, cond, ◌==◌, ◌&&◌, not, List, [], ◌∷◌, filter, find, Option, Some, None, option_map, Result, Ok, Err}
+use Rattle.ci_machine_laws.proofs.Prelude.{rules, ◌≡◌, ℕ, Bool, true, false, cond, ◌==◌, ◌&&◌, not, List, [], ◌∷◌, filter, find, Option, Some, None, option_map, Result, Ok, Err}
 use Rattle.ci_machine_laws.proofs.Prelude.{Ordering, Equal, nat_cmp, is_eq, is_lt, refl, sym, ap, subst, ◌∙◌, inl, inr, ⊎_elim, eqb-true, eq-eqb, bytes_eq, slice_cmp, cond_both}
 use Rattle.ci_machine_laws.proofs.Prelude.{cond-true, cond-false, cases_Bool, both_ways, and_parts, bytes_eq-Decides, Has, has_filter, same, equal, find_implied, ordering_then}
 use Rattle.std.proofs.lemmas.Map.Text.{is_eq-slice_cmp}
@@ -121,19 +121,11 @@ sets_mode s t new now seed (Answer.Swept swept) step fine = absurd step.happens
 -- ---- each other event
 
 keeps : (s : State) (board : List BoardRow) (e : Event) → ((new : NewMode) → e ≡ Event.Request (SetMode new) → ⊥) → EachNext s board e (λ _ t. t.modes ≡ s.modes)
-keeps s board e other = record {
-  stays = λ _ _. refl;
-  aside = λ _ _ t by. beside t by;
-  pipeline = λ new now is project text laid claims rows asked has named file lays fits. refl;
-  granted = λ token is runner job q variables now seed found offered has_runner has_job pending is_queued free. refl;
-  alters = λ _ _ old seen state has live. refl;
-  grown = λ part is old at size has its live. refl;
-  acted = λ _ _ changes act. refl;
-  pruned = λ p before is found. refl;
-} where
-  beside : (t : State) → IsAside s e t → t.modes ≡ s.modes
-  beside _ (modes_are new is ms) = absurd (other new is)
-  beside _ by = refl
+keeps s board e other = search (rules, beside)
+  where
+    beside : (t : State) → IsAside s e t → t.modes ≡ s.modes
+    beside _ (modes_are new is ms) = absurd (other new is)
+    beside _ by = refl
 
 pub modes_stay : (s t : State) (e : Event) (now : ℕ) (seed : Seed) (a : Answer) → IsReached s → ((new : NewMode) → e ≡ Event.Request (SetMode new) → ⊥) → Step s e now seed a t → t.modes ≡ s.modes
 modes_stay s t e now seed a reaches other step =

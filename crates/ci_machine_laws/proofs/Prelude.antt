@@ -1,8 +1,8 @@
 -- The words and lemmas of the crates below that the proofs of this crate cite, in one list: they name them from here.
-pub use Rattle.std.proofs.Common.{◌≡◌, ◌⊎◌, ℕ, ◌==◌, true, false, List, [], ◌∷◌, ◌++◌, length, map, filter, refl, sym, ap, ◌∙◌, inl, inr, ⊎_elim, Contains, subst, arith, zero}
-pub use Rattle.std.proofs.Common.{suc, ◌-◌, ◌<◌, Bool, ◌||◌, not, if◌then◌else◌, option_map, None, map-id, ◌+◌, ◌≤◌, nat_lt, count_by, eqb-true, nat_cmp, Option, Some, Result}
-pub use Rattle.std.proofs.Common.{Ok, Err, ◌&&◌, flat_map, eq-eqb, ne_eqb, is_lt, Ordering, cond, find, Equal, is_eq, replicate, take, reverse, All, Less, ltb-true, lt-ltb, ◌^◌}
-pub use Rattle.std.proofs.Common.{option_and_then, nat_le, leb-true, max, slice_index_or, codes}
+pub use Rattle.std.proofs.Common.{◌≡◌, ◌⊎◌, ℕ, ◌==◌, true, false, List, [], ◌∷◌, ◌++◌, length, map, filter, refl, sym, ap, ◌∙◌, inl, inr, ⊎_elim, rules, Contains, subst, arith}
+pub use Rattle.std.proofs.Common.{zero, suc, ◌-◌, ◌<◌, Bool, ◌||◌, not, if◌then◌else◌, option_map, None, map-id, ◌+◌, ◌≤◌, nat_lt, count_by, eqb-true, nat_cmp, Option, Some}
+pub use Rattle.std.proofs.Common.{Result, Ok, Err, ◌&&◌, flat_map, eq-eqb, ne_eqb, is_lt, Ordering, cond, find, Equal, is_eq, replicate, take, reverse, All, Less, ltb-true}
+pub use Rattle.std.proofs.Common.{lt-ltb, ◌^◌, option_and_then, nat_le, leb-true, max, slice_index_or, codes}
 pub use Rattle.std.specs.Cmp.{IsTotalOrder, Equal-is}
 pub use Rattle.std.specs.Cmp.Lexicographic.{slice_cmp}
 pub use Rattle.std.specs.List.{last_or, range_with_len, list_any, AllByRecursion, list_all}

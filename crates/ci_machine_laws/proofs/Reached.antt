@@ -1,19 +1,19 @@
 -- What holds of every state that a history leads to.
-use Rattle.ci_machine_laws.proofs.Prelude.{◌≡◌, ◌⊎◌, ℕ, ◌<◌, ◌≤◌, Bool, true, false, ◌==◌, ◌&&◌, List, [], ◌∷◌, if◌then◌else◌, Some, refl, sym, ap, subst, ◌∙◌, inl, inr, ⊎_elim}
-use Rattle.ci_machine_laws.proofs.Prelude.{arith, bytes_eq, both_ways, cases_Bool, bytes_eq-Decides, Has, Rising, rising_put, has_put, rising_filter, has_filter, filter_has}
-use Rattle.ci_machine_laws.proofs.Prelude.{has_find, least_find, find-map, one_at, All-from_has, contains_from_has, put_all, attempt_was, attempt_left, trace_left}
+use Rattle.ci_machine_laws.proofs.Prelude.{rules, ◌≡◌, ◌⊎◌, ℕ, ◌<◌, ◌≤◌, Bool, true, false, ◌==◌, ◌&&◌, List, [], ◌∷◌, if◌then◌else◌, Some, refl, sym, ap, subst, ◌∙◌, inl, inr}
+use Rattle.ci_machine_laws.proofs.Prelude.{⊎_elim, arith, bytes_eq, both_ways, cases_Bool, bytes_eq-Decides, Has, Rising, rising_put, has_put, rising_filter, has_filter}
+use Rattle.ci_machine_laws.proofs.Prelude.{filter_has, has_find, least_find, find-map, one_at, All-from_has, contains_from_has, put_all, attempt_was, attempt_left, trace_left}
 use Rattle.ci_machine_steps.specs.Prelude.{is_grant, BoardRow, Runner, Job, JobVariable, QueuedJob, Attempt, TracePart, Event, AskJob, AppendTrace, Seed, Answer, State, applied}
 use Rattle.ci_machine_steps.specs.Prelude.{put, job_cmp, attempt_cmp, jobs_of, AreBoard, is_live, is_eligible, chosen, groups_in, creation, pipeline_created, granted, grown}
 use Rattle.ci_machine_steps.specs.Prelude.{is_job_among, pruned_reply, without_pipeline, runner_with, last_attempt, is_pending, pending_jobs, queued, queue, Past, Leads, grants}
 use Rattle.ci_machine_steps.specs.Prelude.{accepted_bytes}
-use Rattle.ci_machine_laws.proofs.Grants.{Grants, grants_empty, live_last}
+use Rattle.ci_machine_laws.proofs.Grants.{Grants, live_last}
 use Rattle.ci_machine_laws.proofs.Pending.{pending_free}
 use Rattle.ci_machine_laws.proofs.PutAll.{rising_all, has_still}
 use Rattle.ci_machine_laws.proofs.EachPlan.{given_in}
 use Rattle.ci_machine_laws.proofs.EachNext.{EachNext, next_is}
 use Rattle.ci_machine_laws.proofs.Gone.{goes_with}
 use Rattle.ci_machine_laws.proofs.Ends.{Ends}
-use Rattle.ci_machine_laws.proofs.Traces.{Traces, Was, IsNew, same, traces_empty}
+use Rattle.ci_machine_laws.proofs.Traces.{Traces, Was, IsNew, same}
 use Rattle.ci_machine_laws.proofs.Grants as leased
 use Rattle.ci_machine_laws.proofs.Traces as trace
 use Rattle.ci_machine_laws.proofs.Ends as finals
@@ -169,7 +169,7 @@ each h s board e now seed are i = record {
       }
 
 pub reached : (h : List Past) (s : State) → Leads h s → Inv h s
-reached [] s l = subst (Inv []) (sym l) (record { grants = grants_empty; traces = traces_empty; ends = λ p k. absurd k })
+reached [] s l = subst (Inv []) (sym l) (search rules)
 reached (p ∷ h) s l =
     let i = reached h p.before l.0 in
     subst (Inv (p ∷ h)) (sym l.1.state)

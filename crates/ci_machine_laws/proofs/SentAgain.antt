@@ -1,8 +1,8 @@
 -- What a runner sends again changes nothing.
-use Rattle.ci_machine_laws.proofs.Prelude.{◌≡◌, ◌⊎◌, ℕ, ◌+◌, Bool, true, false, cond, ◌==◌, not, max, List, [], ◌∷◌, ◌++◌, length, find, Option, Some, None, option_map, Result}
-use Rattle.ci_machine_laws.proofs.Prelude.{Ok, Err, nat_cmp, is_eq, is_lt, Ordering, refl, sym, ap, subst, ◌∙◌, inl, inr, ⊎_elim, arith, eqb-true, eq-eqb, ne_eqb, bytes_eq}
-use Rattle.ci_machine_laws.proofs.Prelude.{cond_both, cond-true, cond-false, both_ways, false≢true, append-nil, length-append, Failed, Has, Rising, rising_put, find_has}
-use Rattle.ci_machine_laws.proofs.Prelude.{has_find, equal, All-from_has, contains_named, named_contains, filter_implied, its_trace}
+use Rattle.ci_machine_laws.proofs.Prelude.{rules, ◌≡◌, ◌⊎◌, ℕ, ◌+◌, Bool, true, false, cond, ◌==◌, not, max, List, [], ◌∷◌, ◌++◌, length, find, Option, Some, None, option_map}
+use Rattle.ci_machine_laws.proofs.Prelude.{Result, Ok, Err, nat_cmp, is_eq, is_lt, Ordering, refl, sym, ap, subst, ◌∙◌, inl, inr, ⊎_elim, arith, eqb-true, eq-eqb, ne_eqb}
+use Rattle.ci_machine_laws.proofs.Prelude.{bytes_eq, cond_both, cond-true, cond-false, both_ways, false≢true, append-nil, length-append, Failed, Has, Rising, rising_put}
+use Rattle.ci_machine_laws.proofs.Prelude.{find_has, has_find, equal, All-from_has, contains_named, named_contains, filter_implied, its_trace}
 use Rattle.ci_machine_steps.specs.Prelude.{AttemptState, Live, Succeeded, is_live_state, Attempt, Trace, Lease, LeaseFault, NotLive, LeaseOver, PieceFault, RowChange, Put}
 use Rattle.ci_machine_steps.specs.Prelude.{Record, Event, UpdateJob, AppendTrace, Seed, Report, JobUpdate, TracePart, M5, HttpStatus, Fine, Reply, Answer, State, applied, placed}
 use Rattle.ci_machine_steps.specs.Prelude.{put, others, attempt_cmp, trace_cmp, trace_in, with_bytes, is_live, is_over, while_leased, renewed, accepted, same_exit, is_same_end}
@@ -178,14 +178,7 @@ module _ (s : State) (rise : Rising (λ (a : Attempt). a.id) 0 s.attempts) (u : 
       ∙ ap (λ cs. (told (status_of_state a.state), cs)) (cond-false (is_live a) (Put (Record.Attempt a) ∷ []) [] (same_ended a.state final.state same))))
 
   settled_by : (a : Attempt) → Has a s.attempts → a.id ≡ u.attempt → bytes_eq a.token u.token ≡ true → is_same_end a.state final.state ≡ true → IsSettled s u (told (status_of_state a.state))
-  settled_by a has its token same = record {
-    attempt = a;
-    has = has;
-    number = its;
-    token = token;
-    over = same_ended a.state final.state same;
-    again = same_again a same;
-  }
+  settled_by a has its token same = search (rules, same_ended, same_again)
 
   ends : (a : Attempt) → Has a s.attempts → a.id ≡ u.attempt → bytes_eq a.token u.token ≡ true → (r : Result AttemptState LeaseFault) → ((state : AttemptState) → r ≡ Ok state → Finishes a final.state state)
       → Settles s u (ended a r)

@@ -2,7 +2,7 @@
 use Rattle.ci_machine_laws.proofs.Prelude.{◌≡◌, ◌⊎◌, ℕ, ◌<◌, ◌≤◌, ◌==◌, List, [], ◌∷◌, ◌++◌, if◌then◌else◌, refl, sym, ap, subst, ◌∙◌, inl, ⊎_elim, arith, eq-eqb, cond-true}
 use Rattle.ci_machine_laws.proofs.Prelude.{cond-false, append-nil, Has, Named, has_put_other, different, no_trace, its_trace, other_trace, traces_then}
 use Rattle.std.proofs.lemmas.Bool.{ne_eqb}
-use Rattle.ci_machine_steps.specs.Prelude.{Attempt, Trace, State, empty, attempt_cmp, put, trace_in, with_bytes, trace_of, Past, accepted_bytes, all_accepted, IsTraced}
+use Rattle.ci_machine_steps.specs.Prelude.{Attempt, Trace, State, attempt_cmp, put, trace_in, with_bytes, trace_of, Past, accepted_bytes, all_accepted, IsTraced}
 
 pub record Traces (h : List Past) (s : State) : Type 0 where
   -- no trace is of an attempt that is still to come
@@ -10,9 +10,6 @@ pub record Traces (h : List Past) (s : State) : Type 0 where
   pub traced : (a : Attempt) → Has a s.attempts → IsTraced h s a
   -- no line has bytes of an attempt that is still to come
   pub quiet : (n : ℕ) → s.next.attempt ≤ n → all_accepted n h ≡ []
-
-pub traces_empty : Traces [] empty
-traces_empty = record { below = λ t k. absurd k; traced = λ a k. absurd k; quiet = λ n l. refl }
 
 -- the attempt was there
 abbrev pub Was : State → Attempt → Type 0

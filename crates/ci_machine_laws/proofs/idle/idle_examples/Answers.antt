@@ -31,14 +31,8 @@ returns-clause-lacks_tag c =
     lacks (inl e) = false≢true (ap (λ (tag : List ℕ). bytes_eq tag (codes "linux")) e)
     lacks (inr k) = k
 
-pub returns-clause-untagged : goal.returns-clause-untagged
-returns-clause-untagged c = why.untagged refl refl
-
 pub returns-clause-other_project : goal.returns-clause-other_project
 returns-clause-other_project c = why.of_other 2 1 refl (its_pipeline, contains_from_has its_pipeline leased.pipelines (inl refl), refl, refl) (λ e. omega (arith, e))
-
-pub returns-clause-paused : goal.returns-clause-paused
-returns-clause-paused c = why.paused refl
 
 pub returns-clause-held : goal.returns-clause-held
 returns-clause-held c =
