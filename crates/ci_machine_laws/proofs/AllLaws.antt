@@ -1,8 +1,8 @@
 -- All that holds of every state that a history leads to.
-use Rattle.ci_machine_laws.proofs.Prelude.{rules, ◌≡◌, ◌⊎◌, true, false, List, [], ◌∷◌, map, Contains, refl, sym, subst, inl, inr, ⊎_elim, arith, Has, has_filter, All-from_has}
+use Rattle.ci_machine_laws.proofs.Prelude.{◌≡◌, true, false, Contains, rules, ◌⊎◌, List, [], ◌∷◌, map, refl, sym, subst, inl, inr, ⊎_elim, arith, Has, has_filter, All-from_has}
 use Rattle.ci_machine_laws.proofs.Prelude.{contains_from_has, has_from_contains, has_map}
-use Rattle.ci_machine_steps.specs.Prelude.{BoardRow, Attempt, State, empty, AreBoard, is_live, Past, Leads, grants, WasGranted, IsTraced, WentWithItsJob, EndsStay, Stay, Stays}
-use Rattle.ci_machine_steps.specs.Prelude.{IsSweptBy, IsPrunedBy, is_grant, GivesInOrder, Laws}
+use Rattle.ci_machine_steps.specs.Prelude.{is_live, WentWithItsJob, is_grant, GivesInOrder, BoardRow, Attempt, State, empty, AreBoard, Past, Leads, grants, WasGranted, EndsStay}
+use Rattle.ci_machine_steps.specs.Prelude.{Stay, Stays, Laws}
 use Rattle.ci_machine_laws.proofs.Included.{was_included}
 use Rattle.ci_machine_laws.proofs.Grants.{WasGiven, one_lease}
 use Rattle.ci_machine_laws.proofs.Reached.{reached}
@@ -32,36 +32,21 @@ settled (p ∷ h) s l = (l.1.after, l.1.are_after)
 
 -- each attempt was granted to the least eligible job, which its rules had included
 granted : (h : List Past) (s : State) → Leads h s → (a : Attempt) → WasGiven h a → WasGranted h a
-granted h s leads a w = record {
-  line = w.line;
-  once = w.once;
-  runner = w.runner;
-  job = w.job;
-  its_runner = w.its_runner;
-  its_job = w.its_job;
-  eligible = w.eligible;
-  asked = w.asked;
-  was_included = was_included h s leads w.line
-      (has_filter (grants a.id) w.line h (subst (Has w.line) (sym w.once) (inl refl))).0
-      w.job (has_from_contains w.job w.line.before.jobs w.eligible.is_job);
-}
+granted h s leads a w =
+    let before = (has_filter (grants a.id) w.line h (subst (Has w.line) (sym w.once) (inl refl))).0 in
+    let was_included = was_included h s leads w.line before w.job (has_from_contains w.job w.line.before.jobs w.eligible.is_job) in
+    search rules
+
+ended : (h : List Past) (s : State) → Leads h s → (p : Past) → Has p h → EndsStay h p.before s
+ended h s leads p k = All-from_has (λ (a : Attempt). is_live a ≡ false → Contains s.attempts a ⊎ WentWithItsJob h a) p.before.attempts
+    (λ a m l. ⊎_elim (λ n. inl (contains_from_has a s.attempts n)) (λ w. inr w.0) ((reached h s leads).ends p k a m l))
 
 -- all the laws
 pub laws : (h : List Past) (s : State) → Leads h s → Laws h s
 laws h s leads =
     let i = reached h s leads in
     let held = held h s leads in
-    record {
-      one_lease = one_lease h s i.grants;
-      one_in_group = one_in_group h s leads;
-      was_granted = All-from_has (WasGranted h) s.attempts (λ a k. granted h s leads a (i.grants.granted a k));
-      traced = All-from_has (IsTraced h s) s.attempts i.traces.traced;
-      ends_stay = All-from_has (λ (p : Past). EndsStay h p.before s) h (λ p k. All-from_has (λ (a : Attempt). is_live a ≡ false → Contains s.attempts a ⊎ WentWithItsJob h a) p.before.attempts
-          (λ a m l. ⊎_elim (λ n. inl (contains_from_has a s.attempts n)) (λ w. inr w.0) (i.ends p k a m l)));
-      stays = All-from_has (λ (p : Past). Stays h p.before s) h (λ p k. stays_from h p.before s (held.stays p k));
-      linked = is_linked s held.linked;
-      settled = settled h s leads;
-      swept = All-from_has (λ (p : Past). IsSweptBy p.before p.now p.event p.answer) h held.swept;
-      pruned = All-from_has (λ (p : Past). IsPrunedBy p.before p.event p.answer) h held.pruned;
-      in_order = All-from_has (λ (p : Past). is_grant p.event p.answer ≡ true → GivesInOrder p.before p.answer) h held.in_order;
-    }
+    let in_group = one_in_group h s leads in
+    let ends_stay = All-from_has (λ (p : Past). EndsStay h p.before s) h (ended h s leads) in
+    let in_order = All-from_has (λ (p : Past). is_grant p.event p.answer ≡ true → GivesInOrder p.before p.answer) h held.in_order in
+    search (rules, All-from_has, one_lease, granted, i.grants.granted, i.traces.traced, stays_from, held.stays, is_linked, settled, held.swept, held.pruned)

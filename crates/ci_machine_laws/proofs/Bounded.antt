@@ -1,6 +1,7 @@
 -- The numbers of jobs stay within their limit, in every state that a history leads to.
-use Rattle.ci_machine_laws.proofs.Prelude.{◌≡◌, ◌+◌, ◌-◌, ◌≤◌, Bool, true, false, ◌||◌, nat_lt, List, [], ◌∷◌, length, sym, subst, arith, false≢true, ltb-false, new_length}
-use Rattle.ci_machine_steps.specs.Prelude.{MAX_NUMBER, BoardRow, Event, State, Past, Leads}
+use Rattle.ci_machine_laws.proofs.Prelude.{ℕ, rules, Given, created_state, ◌≡◌, ◌+◌, ◌-◌, ◌≤◌, Bool, true, false, ◌||◌, nat_lt, List, [], ◌∷◌, length, sym, subst, arith}
+use Rattle.ci_machine_laws.proofs.Prelude.{false≢true, ltb-false, new_length}
+use Rattle.ci_machine_steps.specs.Prelude.{NewPipeline, Layout, lacks_numbers, creation, MAX_NUMBER, BoardRow, Event, State, Past, Leads}
 use Rattle.ci_machine_laws.proofs.EachNext.{EachNext, next_is}
 use Rattle.ci_machine_laws.proofs.Reached.{reached}
 
@@ -12,22 +13,16 @@ or_right : (a b : Bool) → (a || b) ≡ false → b ≡ false
 or_right true b e = absurd (false≢true (sym e))
 or_right false b e = e
 
+made : (s : State) (new : NewPipeline) (given : Given) (now : ℕ) (laid : Layout) → lacks_numbers s.next.pipeline s.next.job (length laid.plan.jobs) ≡ false
+    → IsWithinLimit (created_state s.next.job (creation s.next.pipeline s.next.job new given now laid) s)
+made s new given now laid fits =
+    let first = s.next.job in
+    let last = first + length laid.plan.jobs - 1 in
+    let below : last ≤ MAX_NUMBER = ltb-false MAX_NUMBER last (or_right (nat_lt MAX_NUMBER s.next.pipeline) (nat_lt MAX_NUMBER last) fits) in
+    omega (arith, new_length s.next.pipeline first 0 laid.plan.jobs)
+
 stays : (s : State) (board : List BoardRow) (e : Event) → IsWithinLimit s → EachNext s board e (λ _ t. IsWithinLimit t)
-stays s board e within = record {
-  stays = λ _ _. within;
-  aside = λ _ _ t by. within;
-  pipeline = λ new now is project text laid claims rows asked has named file lays fits.
-      let first = s.next.job in
-      let last = first + length laid.plan.jobs - 1 in
-      let long = new_length s.next.pipeline first 0 laid.plan.jobs in
-      let below : last ≤ MAX_NUMBER = ltb-false MAX_NUMBER last (or_right (nat_lt MAX_NUMBER s.next.pipeline) (nat_lt MAX_NUMBER last) fits) in
-      omega arith;
-  granted = λ token is runner job q variables now seed found offered has_runner has_job pending is_queued free. within;
-  alters = λ _ _ old seen state has live. within;
-  grown = λ part is old at size has its live. within;
-  acted = λ _ _ changes act. within;
-  pruned = λ p before is found. within;
-}
+stays s board e within = search (rules, made)
 
 pub within_limit : (h : List Past) (s : State) → Leads h s → IsWithinLimit s
 within_limit [] s l = subst IsWithinLimit (sym l) (omega arith)

@@ -1,15 +1,15 @@
 -- What holds of the plan of each request, by what is asked for and whether it is there.
-use Rattle.ci_machine_laws.proofs.Prelude.{◌≡◌, ℕ, ◌==◌, Bool, List, [], length, not, nat_lt, true, false, Option, None, Some, Result, Ok, Err, ◌∷◌, refl, sym, subst, eqb-true}
-use Rattle.ci_machine_laws.proofs.Prelude.{bytes_eq, cond_both, Config, MAX_VARIABLES, Given, Has, has_find}
-use Rattle.ci_machine_steps.specs.Prelude.{Status, BoardRow, Project, Pipeline, Job, Attempt, is_variable_name, Facts, Row, Variable, Claim, GroupMode, GroupOrder, NewVariable}
-use Rattle.ci_machine_steps.specs.Prelude.{NewMode, NewPipeline, JobQuery, Subject, ReadQuery, Code, M1, M2, M3, M4, M5, M10, M11, M12, M13, M14, M15, Detail, K, Body, Json}
-use Rattle.ci_machine_steps.specs.Prelude.{RowChange, Put, Remove, Record, Key, is_name, State, applied, jobs_of, facts_of, rows_of, status_for, printed_status, job_data}
-use Rattle.ci_machine_steps.specs.Prelude.{pipeline_data, Plan, refused, faulted, fine, asked_project, file_set, set_file, SetsFile, count_with, variable_set, set_variable}
-use Rattle.ci_machine_steps.specs.Prelude.{variable_gone, delete_variable, mode_told, mode_change, set_mode, show_mode, have_names, file_or_none, may_create, given_by, Layout}
-use Rattle.ci_machine_steps.specs.Prelude.{IsLaidOut, lacks_numbers, creation, creation_changes, pipeline_created, MakesUnless, Makes, Creates, asked_pipeline, pipeline_within}
-use Rattle.ci_machine_steps.specs.Prelude.{pipeline_shown, show_pipeline, job_within, asked_job, shown, jobs_read, attempts_read, attempt_within, attempt_of, trace_read, read_of}
-use Rattle.ci_machine_steps.specs.Prelude.{read, permitted, ActsOn, cancellable_jobs, cancel, CancelsSome, CancelsPipeline, claims_in, project_with, project_variables}
-use Rattle.ci_machine_steps.specs.Prelude.{pipeline_at, attempt_at, pipeline_of, job_at, found_job, queued}
+use Rattle.ci_machine_laws.proofs.Prelude.{ap, ◌∙◌, ◌≡◌, ℕ, ◌==◌, Bool, List, [], length, not, nat_lt, true, false, Option, None, Some, Result, Ok, Err, ◌∷◌, refl, sym, subst}
+use Rattle.ci_machine_laws.proofs.Prelude.{eqb-true, bytes_eq, cond_both, Config, MAX_VARIABLES, Given, Has, has_find}
+use Rattle.ci_machine_steps.specs.Prelude.{Read, Event, Answer, Seed, Step, Reply, Status, BoardRow, Project, Pipeline, Job, Attempt, is_variable_name, Facts, Row, Variable}
+use Rattle.ci_machine_steps.specs.Prelude.{Claim, GroupMode, GroupOrder, NewVariable, NewMode, NewPipeline, JobQuery, Subject, ReadQuery, Code, M1, M2, M3, M4, M5, M10, M11, M12}
+use Rattle.ci_machine_steps.specs.Prelude.{M13, M14, M15, Detail, K, Body, Json, RowChange, Put, Remove, Record, Key, is_name, State, applied, jobs_of, facts_of, rows_of}
+use Rattle.ci_machine_steps.specs.Prelude.{status_for, printed_status, job_data, pipeline_data, Plan, refused, faulted, fine, asked_project, file_set, set_file, SetsFile}
+use Rattle.ci_machine_steps.specs.Prelude.{count_with, variable_set, set_variable, variable_gone, delete_variable, mode_told, mode_change, set_mode, show_mode, have_names}
+use Rattle.ci_machine_steps.specs.Prelude.{file_or_none, may_create, given_by, Layout, IsLaidOut, lacks_numbers, creation, creation_changes, pipeline_created, MakesUnless, Makes}
+use Rattle.ci_machine_steps.specs.Prelude.{Creates, asked_pipeline, pipeline_within, pipeline_shown, show_pipeline, job_within, asked_job, shown, jobs_read, attempts_read}
+use Rattle.ci_machine_steps.specs.Prelude.{attempt_within, attempt_of, trace_read, read_of, read, permitted, ActsOn, cancellable_jobs, cancel, CancelsSome, CancelsPipeline}
+use Rattle.ci_machine_steps.specs.Prelude.{claims_in, project_with, project_variables, pipeline_at, attempt_at, pipeline_of, job_at, found_job, queued}
 use Rattle.serde_json.specs.Written.{compact_text}
 use Rattle.ci_machine_steps.specs.Reads.{told}
 use Rattle.ci_machine_laws.proofs.Acts.{IsAct, cancels, cancellable_within}
@@ -245,3 +245,14 @@ module _ (P : Plan → Type 0) (of_code : (c : Code) → IsMachineCode c → P (
   of_read s board query =
       let r = of_asked s query.token query.project in
       tells (read_of s board r query.subject) (is_told s board query.project r (is_asked s query.token query.project) query.subject)
+
+-- where a project is read, or what it has, and this isn't refused, what is told is that of the project
+pub read_told : (s t : State) (query : ReadQuery) (what : Subject) (now : ℕ) (seed : Seed) (reply : Reply) → query.subject ≡ what → (step : Step s (Event.Request (Read query)) now seed (Answer.Reply reply) t) → reply.code ≡ None
+    → (Tells : ℕ → Reply → Type 0) → ((p : Project) → Tells p.id (read s step.before (Ok p) what).0) → Tells query.project reply
+read_told s t query what now seed reply is step none Tells h =
+    let P : Plan → Type 0 = λ plan. plan.0.code ≡ None → Tells query.project plan.0 in
+    subst P (sym (step.happens ∙ ap (λ w. read s step.before (of_asked s query.token query.project) w) is)) (tells_so (of_asked s query.token query.project) (is_asked s query.token query.project)) none
+  where
+    tells_so : (r : Result Project Code) → Asked s query.project r → (read s step.before r what).0.code ≡ None → Tells query.project (read s step.before r what).0
+    tells_so (Err code) found none = absurd (cc)
+    tells_so (Ok p) found none = subst (λ n. Tells n (read s step.before (Ok p) what).0) found.1 (h p)

@@ -1,14 +1,14 @@
 -- The pipelines that are listed of a project are its newest.
-use Rattle.ci_machine_laws.proofs.Prelude.{◌≡◌, ◌⊎◌, ◌<◌, ℕ, zero, suc, ◌+◌, Bool, ◌==◌, List, [], ◌∷◌, ◌++◌, length, map, filter, take, reverse, All, Contains, None, Result, Ok}
-use Rattle.ci_machine_laws.proofs.Prelude.{Err, nat_cmp, is_lt, Less, refl, sym, ap, subst, ◌∙◌, inl, inr, ⊎_elim, arith, eqb-true, eq-eqb, AllByRecursion, Has, Rising}
-use Rattle.ci_machine_laws.proofs.Prelude.{rising_from, rising_filter, has_filter, filter_has, All-from_has, contains_from_has, less, nat_less, in_either, has_left, has_right}
+use Rattle.ci_machine_laws.proofs.Prelude.{◌≡◌, ◌⊎◌, ◌<◌, ℕ, zero, suc, ◌+◌, Bool, ◌==◌, List, [], ◌∷◌, ◌++◌, length, map, filter, take, reverse, All, Contains, None, nat_cmp}
+use Rattle.ci_machine_laws.proofs.Prelude.{is_lt, Less, refl, sym, ap, subst, ◌∙◌, inl, inr, ⊎_elim, arith, eqb-true, eq-eqb, AllByRecursion, Has, Rising, rising_from}
+use Rattle.ci_machine_laws.proofs.Prelude.{rising_filter, has_filter, filter_has, All-from_has, contains_from_has, less, nat_less, in_either, has_left, has_right}
 use Rattle.ci_machine_laws.proofs.Prelude.{rising_from_ascend}
 use Rattle.std.specs.List.Sorted.{IsStrictlySortedBy}
 use Rattle.std.proofs.lemmas.Grind.{reverse_onto}
-use Rattle.ci_machine_steps.specs.Prelude.{LISTED_PIPELINES, Pipeline, Project, BoardRow, Event, Read, ReadQuery, Subject, Seed, Code, Reply, Answer, RowChange, State, applied}
-use Rattle.ci_machine_steps.specs.Prelude.{AreBoard, Plan, listed_pipelines, read, Step, Happens, IsReached}
+use Rattle.ci_machine_steps.specs.Prelude.{LISTED_PIPELINES, Pipeline, BoardRow, Event, Read, ReadQuery, Subject, Seed, Reply, Answer, RowChange, State, applied, Plan}
+use Rattle.ci_machine_steps.specs.Prelude.{listed_pipelines, Step, Happens, IsReached}
 use Rattle.ci_machine_laws.specs.Reads.{AreNewest, TellsNewest}
-use Rattle.ci_machine_laws.proofs.EachPlan.{Asked, of_asked, is_asked, of_read}
+use Rattle.ci_machine_laws.proofs.EachPlan.{of_read, read_told}
 use Rattle.ci_machine_laws.proofs.Numbers.{sound_reached}
 
 -- ---- lists whose numbers fall
@@ -118,28 +118,12 @@ listed_newest s project rise = record {
 
 -- ---- what is told of them
 
-module _ (s : State) (board : List BoardRow) (are : AreBoard s board) (rise : Rising (λ (p : Pipeline). p.id) 0 s.pipelines) (named : ℕ) where
-  abbrev Tells : Plan → Type 0
-  Tells plan = plan.0.code ≡ None → TellsNewest s named plan.0
-
-  tells : (r : Result Project Code) → Asked s named r → Tells (read s board r Subject.Pipelines)
-  tells (Err code) asked none = absurd (cc)
-  tells (Ok p) asked none = record {
-    board = board;
-    are_board = are;
-    pipelines = listed_pipelines s p.id;
-    are_newest = subst (λ n. AreNewest s n (listed_pipelines s p.id)) asked.1 (listed_newest s p.id rise);
-    told = refl;
-  }
-
 pub newest_told : (s t : State) (query : ReadQuery) (now : ℕ) (seed : Seed) (reply : Reply) → IsReached s → query.subject ≡ Subject.Pipelines
     → Step s (Event.Request (Read query)) now seed (Answer.Reply reply) t → reply.code ≡ None → TellsNewest s query.project reply
 newest_told s t query now seed reply reaches is step none =
-    let r = of_asked s query.token query.project in
     let rise = rising_from_ascend (λ (p : Pipeline). p.id) s.pipelines (sound_reached s reaches).pipelines_ascend in
-    let P : Plan → Type 0 = λ plan. plan.0.code ≡ None → TellsNewest s query.project plan.0 in
-    let does : (reply, step.changes) ≡ read s step.before r Subject.Pipelines = step.happens ∙ ap (λ w. read s step.before r w) is in
-    subst P (sym does) (tells s step.before step.are_before rise query.project r (is_asked s query.token query.project)) none
+    read_told s t query Subject.Pipelines now seed reply is step none (TellsNewest s)
+    (λ p. record { board = step.before; are_board = step.are_before; pipelines = listed_pipelines s p.id; are_newest = listed_newest s p.id rise; told = refl })
 
 -- ---- a read changes nothing
 

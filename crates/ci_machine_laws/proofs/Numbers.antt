@@ -1,9 +1,9 @@
 -- Every state that a history leads to is sound.
-use Rattle.ci_machine_laws.proofs.Prelude.{◌≡◌, ◌<◌, ◌≤◌, true, List, [], ◌∷◌, length, All, Some, Ordering, Less, refl, sym, subst, inl, inr, arith, AllByRecursion, IsTotalOrder}
+use Rattle.ci_machine_laws.proofs.Prelude.{◌<◌, All, true, Some, rules, ◌≡◌, List, [], ◌∷◌, Ordering, Less, refl, sym, subst, inl, inr, AllByRecursion, IsTotalOrder}
 use Rattle.ci_machine_laws.proofs.Prelude.{nat_cmp_total, on_total, then_total, nat_list_cmp_total, Has, All-from_has, ascend_from_rising, Ordered, filter_ordered, put_ordered}
+use Rattle.ci_machine_steps.specs.Prelude.{Job, Attempt, is_live, last_attempt, Need, RowChange, Put, Append, Remove, Record, Key, State, need_cmp, GroupMode, mode_cmp}
+use Rattle.ci_machine_steps.specs.Prelude.{with_record, without_record, changed, applied, Past, Leads, IsReached, IsSound}
 use Rattle.std.specs.List.Sorted.{IsStrictlySortedBy}
-use Rattle.ci_machine_steps.specs.Prelude.{Pipeline, Job, Need, Attempt, RowChange, Put, Append, Remove, Record, Key, State, need_cmp, GroupMode, mode_cmp, with_record}
-use Rattle.ci_machine_steps.specs.Prelude.{without_record, changed, applied, attempts_of, is_live, last_attempt, Past, Leads, IsReached, IsSound}
 use Rattle.ci_machine_laws.proofs.Grants.{live_last}
 use Rattle.ci_machine_laws.proofs.Reached.{reached}
 use Rattle.ci_machine_laws.proofs.Held.{held, is_linked}
@@ -56,17 +56,8 @@ sound_reached s is =
     let h = is.0 in
     let grants = (reached h s is.1).grants in
     let linked = (held h s is.1).linked in
-    record {
-      pipelines_ascend = ascend_from_rising (λ (p : Pipeline). p.id) 0 s.pipelines linked.pipelines_rise;
-      jobs_ascend = ascend_from_rising (λ (j : Job). j.id) 0 s.jobs grants.jobs_rise;
-      attempts_ascend = ascend_from_rising (λ (a : Attempt). a.id) 0 s.attempts grants.rise;
-      needs_ascend = ascend need_cmp s.needs (in_order h s is.1).0;
-      pipelines_below = All-from_has (λ (p : Pipeline). p.id < s.next.pipeline) s.pipelines linked.pipeline_below;
-      jobs_positive = All-from_has (λ (j : Job). 0 < j.id) s.jobs (λ j k. let l = linked.positive j k in omega arith);
-      jobs_below = All-from_has (λ (j : Job). j.id < s.next.job) s.jobs linked.job_below;
-      jobs_in_turn = All-from_has (λ (a : Job). All (λ (b : Job). a.pipeline < b.pipeline → a.id < b.id) s.jobs) s.jobs (λ a k. All-from_has (λ (b : Job). a.pipeline < b.pipeline → a.id < b.id) s.jobs (λ b m. linked.in_turn a b k m));
-      attempts_below = All-from_has (λ (a : Attempt). a.id < s.next.attempt) s.attempts grants.below;
-      linked = is_linked s linked;
-      set_aside = All-from_has (λ (j : Job). j.set_aside ≤ length (attempts_of s j.id)) s.jobs linked.aside;
-      live_is_last = All-from_has (λ (a : Attempt). is_live a ≡ true → last_attempt s a.job ≡ Some a) s.attempts (live_last h s grants);
-    }
+    let ordered = in_order h s is.1 in
+    let InTurn : Job → Job → Type 0 = λ a b. a.pipeline < b.pipeline → a.id < b.id in
+    let in_turn = All-from_has (λ (a : Job). All (InTurn a) s.jobs) s.jobs (λ a k. All-from_has (InTurn a) s.jobs (λ b m. linked.in_turn a b k m)) in
+    let last = All-from_has (λ (a : Attempt). is_live a ≡ true → last_attempt s a.job ≡ Some a) s.attempts (live_last h s grants) in
+    search (rules, All-from_has, ascend_from_rising, ascend, linked.pipeline_below, linked.positive, linked.job_below, grants.below, is_linked, linked.aside)

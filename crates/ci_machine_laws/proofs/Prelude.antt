@@ -1,5 +1,5 @@
 -- The words and lemmas of the crates below that the proofs of this crate cite, in one list: they name them from here.
-pub use Rattle.std.proofs.Common.{◌≡◌, ◌⊎◌, ℕ, ◌==◌, true, false, List, [], ◌∷◌, ◌++◌, length, map, filter, refl, sym, ap, ◌∙◌, inl, inr, ⊎_elim, rules, Contains, subst, arith}
+pub use Rattle.std.proofs.Common.{◌≡◌, ◌⊎◌, ℕ, ◌==◌, true, false, List, [], ◌∷◌, ◌++◌, length, map, filter, refl, sym, ap, ◌∙◌, inl, inr, ⊎_elim, Contains, rules, subst, arith}
 pub use Rattle.std.proofs.Common.{zero, suc, ◌-◌, ◌<◌, Bool, ◌||◌, not, if◌then◌else◌, option_map, None, map-id, ◌+◌, ◌≤◌, nat_lt, count_by, eqb-true, nat_cmp, Option, Some}
 pub use Rattle.std.proofs.Common.{Result, Ok, Err, ◌&&◌, flat_map, eq-eqb, ne_eqb, is_lt, Ordering, cond, find, Equal, is_eq, replicate, take, reverse, All, Less, ltb-true}
 pub use Rattle.std.proofs.Common.{lt-ltb, ◌^◌, option_and_then, nat_le, leb-true, max, slice_index_or, codes}
@@ -15,7 +15,7 @@ pub use Rattle.std.proofs.lemmas.List.{length-map, length-append, get_or-map, ap
 pub use Rattle.std.proofs.lemmas.List.Elements.{filter-append, Contains-append_right}
 pub use Rattle.std.proofs.lemmas.Slice.Eq.{bytes_eq-Decides}
 pub use Rattle.ci_board.specs.Prelude.{row_at}
-pub use Rattle.ci_graph_layout.specs.Prelude.{MAX_TAGS, Config, MAX_VARIABLES, Given, Plans, faulty, cyclic, X8, Patterns, built, Fault, K13, LacksPatterns, meaning, Means}
+pub use Rattle.ci_graph_layout.specs.Prelude.{Given, MAX_TAGS, Config, MAX_VARIABLES, Plans, faulty, cyclic, X8, Patterns, built, Fault, K13, LacksPatterns, meaning, Means}
 pub use Rattle.ci_graph_layout.specs.Prelude.{planned}
 pub use Rattle.ci_graph_layout.specs.declared.fault.GraphCode.{GraphCode}
 pub use Rattle.ci_machine.proofs.Filters.{filter_implied, find_implied, filter_all}
@@ -26,7 +26,7 @@ pub use Rattle.ci_machine.proofs.Tests.{any_has, has_any, any_joined}
 pub use Rattle.ci_machine.specs.Prelude.{Part, JobGraph, part_at, Failed, IsWalk, HasWalk, IsAcyclic, number_at, list_at, times, once, is_among, distinct, IsOrder, IsStuck}
 pub use Rattle.ci_machine.specs.Prelude.{AreWithin, firsts_of, has_pair, IsJobGraph, predecessors_of}
 pub use Rattle.ci_machine_steps.proofs.Behind.{put_all, has_all, nat_less, put_behind, in_either, has_left, has_right}
-pub use Rattle.ci_machine_steps.proofs.Created.{applied_append, new_length, created_state, after_creation, new_are, laid_is, lineup_are, IsNew, needs_are, jobs_behind}
+pub use Rattle.ci_machine_steps.proofs.Created.{applied_append, created_state, new_length, after_creation, new_are, laid_is, lineup_are, IsNew, needs_are, jobs_behind}
 pub use Rattle.ci_machine_steps.proofs.Created.{new_numbered, pairs_inside}
 pub use Rattle.ci_machine_steps.proofs.Finished.{not_its, job_stands}
 pub use Rattle.ci_machine_steps.proofs.Pruned.{pruned_state, attempt_left, job_left, attempt_was, job_was, among_its, attempts_left, trace_left, jobs_left, no_jobs}

@@ -1,15 +1,15 @@
 -- The resource groups that are told of a project are those that have a process mode or are held.
-use Rattle.ci_machine_laws.proofs.Prelude.{◌≡◌, ◌⊎◌, ℕ, true, not, ◌==◌, ◌&&◌, List, [], ◌∷◌, map, find, flat_map, Option, Some, None, option_map, option_and_then, Result, Ok}
-use Rattle.ci_machine_laws.proofs.Prelude.{Err, nat_cmp, is_eq, Ordering, Less, refl, sym, ap, subst, ◌∙◌, inl, inr, ⊎_elim, eqb-true, eq-eqb, bytes_eq, slice_cmp, Equal-is}
-use Rattle.ci_machine_laws.proofs.Prelude.{cases_Bool, both_ways, and_parts, nat_list_cmp_total, bytes_eq-Decides, Has, Rising, has_put, put_has, has_filter, filter_has, has_map}
-use Rattle.ci_machine_laws.proofs.Prelude.{map_has, has_find, find_has, All-from_has, contains_from_has, has_from_contains, equal, any_has, has_any, in_either, has_left}
-use Rattle.ci_machine_laws.proofs.Prelude.{has_right, Ordered, filter_ordered, put_ordered, rising_from_ascend, ordering_then}
+use Rattle.ci_machine_laws.proofs.Prelude.{◌≡◌, ◌⊎◌, ℕ, true, not, ◌==◌, ◌&&◌, List, [], ◌∷◌, map, find, flat_map, Option, Some, None, option_map, option_and_then, nat_cmp}
+use Rattle.ci_machine_laws.proofs.Prelude.{is_eq, Ordering, Less, refl, sym, ap, subst, ◌∙◌, inl, inr, ⊎_elim, eqb-true, eq-eqb, bytes_eq, slice_cmp, Equal-is, cases_Bool}
+use Rattle.ci_machine_laws.proofs.Prelude.{both_ways, and_parts, nat_list_cmp_total, bytes_eq-Decides, Has, Rising, has_put, put_has, has_filter, filter_has, has_map, map_has}
+use Rattle.ci_machine_laws.proofs.Prelude.{has_find, find_has, All-from_has, contains_from_has, has_from_contains, equal, any_has, has_any, in_either, has_left, has_right}
+use Rattle.ci_machine_laws.proofs.Prelude.{Ordered, filter_ordered, put_ordered, rising_from_ascend, ordering_then}
 use Rattle.std.proofs.lemmas.Map.Text.{is_eq-slice_cmp}
-use Rattle.ci_machine_steps.specs.Prelude.{Project, Attempt, BoardRow, GroupMode, Holder, QueuedJob, Event, Read, ReadQuery, Subject, Seed, Code, Reply, Answer, State, mode_cmp}
-use Rattle.ci_machine_steps.specs.Prelude.{put, attempt_at, live_attempts, is_live, holds, group_held, held_by, held_of, queued_at, holders, holders_in, modes_in, Plan}
-use Rattle.ci_machine_steps.specs.Prelude.{with_names, group_names, read, Step, IsReached}
+use Rattle.ci_machine_steps.specs.Prelude.{Attempt, GroupMode, Holder, QueuedJob, Event, Read, ReadQuery, Subject, Seed, Reply, Answer, State, mode_cmp, put, attempt_at}
+use Rattle.ci_machine_steps.specs.Prelude.{live_attempts, is_live, holds, group_held, held_by, held_of, queued_at, holders, holders_in, modes_in, with_names, group_names, Step}
+use Rattle.ci_machine_steps.specs.Prelude.{IsReached}
 use Rattle.ci_machine_laws.specs.Reads.{IsHeldBy, IsModeOf, AreGroups, IsHolder, TellsGroups}
-use Rattle.ci_machine_laws.proofs.EachPlan.{Asked, of_asked, is_asked}
+use Rattle.ci_machine_laws.proofs.EachPlan.{read_told}
 use Rattle.ci_machine_laws.proofs.Numbers.{sound_reached, in_order, ascend}
 use Rattle.ci_machine_laws.proofs.Linked.{has_self}
 use Rattle.ci_machine_laws.proofs.Sweeps.{find_none}
@@ -161,26 +161,10 @@ module _ (s : State) (project : ℕ) where
 
 -- ---- what is told of them
 
-module _ (s : State) (board : List BoardRow) (o : Ordered mode_cmp s.modes) (rise : Rising (λ (a : Attempt). a.id) 0 s.attempts) (named : ℕ) where
-  abbrev Tells : Plan → Type 0
-  Tells plan = plan.0.code ≡ None → TellsGroups s named plan.0
-
-  tells : (r : Result Project Code) → Asked s named r → Tells (read s board r Subject.ResourceGroups)
-  tells (Err code) asked none = absurd (cc)
-  tells (Ok p) asked none =
-      let P : ℕ → Type 0 = λ n. TellsGroups s n (read s board (Ok p) Subject.ResourceGroups).0 in
-      subst P asked.1 (record {
-        groups = group_names s p.id;
-        are_groups = are_groups s p.id o;
-        holders = λ g. by_holder s p.id rise g (find (holds p.id g) (holders s)) refl;
-        told = refl;
-      })
-
 pub groups_told : (s t : State) (query : ReadQuery) (now : ℕ) (seed : Seed) (reply : Reply) → IsReached s → query.subject ≡ Subject.ResourceGroups
     → Step s (Event.Request (Read query)) now seed (Answer.Reply reply) t → reply.code ≡ None → TellsGroups s query.project reply
 groups_told s t query now seed reply reaches is step none =
-    let r = of_asked s query.token query.project in
     let rise = rising_from_ascend (λ (a : Attempt). a.id) s.attempts (sound_reached s reaches).attempts_ascend in
-    let P : Plan → Type 0 = λ plan. plan.0.code ≡ None → TellsGroups s query.project plan.0 in
-    let does : (reply, step.changes) ≡ read s step.before r Subject.ResourceGroups = step.happens ∙ ap (λ w. read s step.before r w) is in
-    subst P (sym does) (tells s step.before (in_order reaches.0 s reaches.1).1 rise query.project r (is_asked s query.token query.project)) none
+    let ordered = (in_order reaches.0 s reaches.1).1 in
+    read_told s t query Subject.ResourceGroups now seed reply is step none (TellsGroups s)
+    (λ p. record { groups = group_names s p.id; are_groups = are_groups s p.id ordered; holders = λ g. by_holder s p.id rise g (find (holds p.id g) (holders s)) refl; told = refl })
