@@ -1,10 +1,10 @@
 -- Attempts in every state that a history leads to: which are live, and how each was granted.
-use Rattle.ci_machine_laws.proofs.Prelude.{◌≡◌, ◌⊎◌, ℕ, ◌+◌, ◌<◌, ◌≤◌, true, false, ◌==◌, ◌&&◌, List, [], ◌∷◌, filter, Some, None, refl, sym, ap, subst, ◌∙◌, ⊎_elim, arith}
-use Rattle.ci_machine_laws.proofs.Prelude.{eqb-true, eq-eqb, cond-true, cond-false, and_parts, put_all, Has, Rising, has_put, rising_put, rising_filter, has_filter, filter_has}
-use Rattle.ci_machine_laws.proofs.Prelude.{last_greatest, count_one}
+use Rattle.ci_machine_laws.proofs.Prelude.{rules, ◌≡◌, ◌⊎◌, ℕ, ◌+◌, ◌<◌, ◌≤◌, true, false, ◌==◌, ◌&&◌, List, [], ◌∷◌, filter, Some, None, refl, sym, ap, subst, ◌∙◌, ⊎_elim}
+use Rattle.ci_machine_laws.proofs.Prelude.{arith, eqb-true, eq-eqb, cond-true, cond-false, and_parts, put_all, Has, Rising, has_put, rising_put, rising_filter, has_filter}
+use Rattle.ci_machine_laws.proofs.Prelude.{filter_has, last_greatest, count_one}
+use Rattle.ci_machine_steps.specs.Prelude.{attempt_for_good, Runner, Job, Attempt, Event, AskJob, State, attempt_cmp, put, attempts_of, is_live, last_attempt, Past, grants}
+use Rattle.ci_machine_steps.specs.Prelude.{IsLeastEligible, OneLease, RowChange}
 use Rattle.std.proofs.lemmas.Bool.{ne_eqb}
-use Rattle.ci_machine_steps.specs.Prelude.{Runner, Job, Attempt, Event, AskJob, State, attempt_cmp, put, attempts_of, is_live, last_attempt, Past, grants, IsLeastEligible}
-use Rattle.ci_machine_steps.specs.Prelude.{OneLease, RowChange}
 use Rattle.ci_machine_laws.proofs.Acts.{IsAct, came}
 
 -- just one line granted the attempt, to the least eligible job: as the law says, but for how the job came into its pipeline
@@ -48,58 +48,36 @@ live_last h s i a k live =
 
 -- a line that grants another number, where the attempt has its number, job and runner still
 longer : (p : Past) (h : List Past) (a b : Attempt) → grants b.id p ≡ false → a.id ≡ b.id → a.job ≡ b.job → a.runner ≡ b.runner → WasGiven h a → WasGiven (p ∷ h) b
-longer p h a b isnt same_id same_job same_runner w = record {
-  line = w.line;
-  once = cond-false (grants b.id p) (p ∷ filter (grants b.id) h) (filter (grants b.id) h) isnt ∙ subst (λ n. filter (grants n) h ≡ w.line ∷ []) same_id w.once;
-  runner = w.runner;
-  job = w.job;
-  its_runner = w.its_runner ∙ same_runner;
-  its_job = w.its_job ∙ same_job;
-  eligible = w.eligible;
-  asked = w.asked;
-}
+longer p h a b isnt same_id same_job same_runner w =
+    let once : filter (grants b.id) (p ∷ h) ≡ w.line ∷ []
+    = cond-false (grants b.id p) (p ∷ filter (grants b.id) h) (filter (grants b.id) h) isnt ∙ subst (λ n. filter (grants n) h ≡ w.line ∷ []) same_id w.once in
+    let its_runner = w.its_runner ∙ same_runner in
+    let its_job = w.its_job ∙ same_job in
+    search rules
 
--- the attempt was there, with its number, job and runner, and was live if it is
+-- the attempt was there, with what it has for good, and was live if it is
 pub record Stood (s : State) (b : Attempt) : Type 0 where
   pub old : Attempt
   pub has : Has old s.attempts
-  pub id : old.id ≡ b.id
-  pub job : old.job ≡ b.job
-  pub runner : old.runner ≡ b.runner
+  pub good : attempt_for_good old ≡ attempt_for_good b
   pub live : is_live b ≡ true → is_live old ≡ true
 
-pub stood_self : (s : State) (b : Attempt) → Has b s.attempts → Stood s b
-stood_self s b k = record { old = b; has = k; id = refl; job = refl; runner = refl; live = λ l. l }
+pub id_stood : (s : State) (b : Attempt) (w : Stood s b) → w.old.id ≡ b.id
+id_stood s b w = ap (λ (c : Attempt). c.id) w.good
 
--- x in place of an attempt of its number, job and runner
-pub stood_put : (s : State) (x a : Attempt) → Has a s.attempts → x.id ≡ a.id → x.job ≡ a.job → x.runner ≡ a.runner → is_live a ≡ true → (b : Attempt) → Has b (put attempt_cmp x s.attempts) → Stood s b
-stood_put s x a has same_id same_job same_runner live b k =
-    ⊎_elim
-    (λ e. record {
-      old = a;
-      has = has;
-      id = sym (ap (λ (c : Attempt). c.id) e ∙ same_id);
-      job = sym (ap (λ (c : Attempt). c.job) e ∙ same_job);
-      runner = sym (ap (λ (c : Attempt). c.runner) e ∙ same_runner);
-      live = λ _. live;
-    })
-    (stood_self s b)
-    (has_put attempt_cmp x b s.attempts k)
+pub job_stood : (s : State) (b : Attempt) (w : Stood s b) → w.old.job ≡ b.job
+job_stood s b w = ap (λ (c : Attempt). c.job) w.good
+
+pub stood_self : (s : State) (b : Attempt) → Has b s.attempts → Stood s b
+stood_self s b k = record { old = b; has = k; good = refl; live = λ l. l }
+
+-- x in place of an attempt that is the same for good
+pub stood_put : (s : State) (x a : Attempt) → Has a s.attempts → attempt_for_good x ≡ attempt_for_good a → is_live a ≡ true → (b : Attempt) → Has b (put attempt_cmp x s.attempts) → Stood s b
+stood_put s x a has good live b k = ⊎_elim (λ e. record { old = a; has = has; good = sym (ap attempt_for_good e ∙ good); live = λ _. live }) (stood_self s b) (has_put attempt_cmp x b s.attempts k)
 
 -- what an act leaves
 pub stood_act : (s : State) (changes : List RowChange) (act : IsAct s changes) (b : Attempt) → Has b (put_all attempt_cmp act.attempts s.attempts) → Stood s b
-stood_act s changes act b k =
-    ⊎_elim
-    (stood_self s b)
-    (λ w. record {
-      old = w.old;
-      has = w.has;
-      id = sym (ap (λ (c : Attempt). c.id) w.is);
-      job = sym (ap (λ (c : Attempt). c.job) w.is);
-      runner = sym (ap (λ (c : Attempt). c.runner) w.is);
-      live = λ _. w.live;
-    })
-    (came s changes act b k)
+stood_act s changes act b k = ⊎_elim (stood_self s b) (λ w. record { old = w.old; has = w.has; good = sym (ap attempt_for_good w.is); live = λ _. w.live }) (came s changes act b k)
 
 -- a step with no attempts but those that were there
 pub stand : (h : List Past) (s t : State) (p : Past) → Grants h s → ((n : ℕ) → grants n p ≡ false) → ((b : Attempt) → Has b t.attempts → Stood s b)
@@ -107,12 +85,12 @@ pub stand : (h : List Past) (s t : State) (p : Past) → Grants h s → ((n : �
 stand h s t p i isnt stood rise f r = record {
   jobs_rise = r;
   rise = rise;
-  below = λ b k. let w = stood b k in subst (λ n. n < t.next.attempt) w.id (subst (λ n. w.old.id < n) (sym f) (i.below w.old w.has));
+  below = λ b k. let w = stood b k in subst (λ n. n < t.next.attempt) (id_stood s b w) (subst (λ n. w.old.id < n) (sym f) (i.below w.old w.has));
   is_last = λ b c k l lv j.
       let v = stood b k in
       let w = stood c l in
-      subst (λ n. n ≤ b.id) w.id (subst (λ n. w.old.id ≤ n) v.id (i.is_last v.old w.old v.has w.has (v.live lv) (v.job ∙ (j ∙ sym w.job))));
-  granted = λ b k. let w = stood b k in longer p h w.old b (isnt b.id) w.id w.job w.runner (i.granted w.old w.has);
+      subst (λ n. n ≤ b.id) (id_stood s c w) (subst (λ n. w.old.id ≤ n) (id_stood s b v) (i.is_last v.old w.old v.has w.has (v.live lv) (job_stood s b v ∙ (j ∙ sym (job_stood s c w)))));
+  granted = λ b k. let w = stood b k in longer p h w.old b (isnt b.id) (id_stood s b w) (job_stood s b w) (ap (λ (c : Attempt). c.runner) w.good) (i.granted w.old w.has);
   fresh = λ n l. cond-false (grants n p) (p ∷ filter (grants n) h) (filter (grants n) h) (isnt n) ∙ i.fresh n (subst (λ m. m ≤ n) f l);
 }
 

@@ -6,7 +6,7 @@ use Rattle.ci_machine_steps.specs.Prelude.{BoardRow, Holder, Pipeline, Job, Atte
 use Rattle.ci_machine_steps.specs.Prelude.{groups_in, is_job_among, without_pipeline, queued_at, group_held, held_by, held_of, holders, is_in_group, job_at, pipeline_at}
 use Rattle.ci_machine_steps.specs.Prelude.{project_or_none, queued, live_attempts, Past, Leads, job_for_good, OneLeaseInGroup}
 use Rattle.ci_machine.proofs.Claims.{free_held, free_not_held}
-use Rattle.ci_machine_laws.proofs.Grants.{Stood, stood_self, stood_put, stood_act}
+use Rattle.ci_machine_laws.proofs.Grants.{Stood, id_stood, job_stood, stood_self, stood_put, stood_act}
 use Rattle.ci_machine_laws.proofs.EachNext.{EachNext, next_is}
 use Rattle.ci_machine_laws.proofs.Reached.{reached}
 use Rattle.ci_machine_laws.proofs.Linked.{Later, later, Linked, linked_on, follows}
@@ -87,8 +87,8 @@ comes s board e jobs_rise rise = record {
         id = ap (λ (c : Attempt). c.id) e;
       }))
       (λ m. inl (stood_self s b m)) (has_put attempt_cmp _ b s.attempts k);
-  alters = λ _ _ old seen state has live b k. inl (stood_put s _ old has refl refl refl live b k);
-  grown = λ part is old now size has its live b k. inl (stood_put s _ old has refl refl refl live b k);
+  alters = λ _ _ old seen state has live b k. inl (stood_put s _ old has refl live b k);
+  grown = λ part is old now size has its live b k. inl (stood_put s _ old has refl live b k);
   acted = λ _ _ changes act b k. inl (stood_act s changes act b k);
   pruned = λ p before is found b k. inl (stood_self s b (attempt_was s p.id jobs_rise rise b k).0);
 } where
@@ -106,8 +106,8 @@ module _ (s t : State) (linked : Linked s) (next : Linked t) (later : Later s t)
   -- what stood was in the group
   was_in : (b : Attempt) (w : Stood s b) (p : ℕ) (g : List ℕ) → is_in_group t p g b ≡ true → is_in_group s p g w.old ≡ true
   was_in b w p g e =
-      let named : Named job_id b.job s.jobs = subst (λ n. Named job_id n s.jobs) w.job (linked.attempt_job w.old w.has) in
-      let same : held_of s w.old ≡ held_of t b = (λ k. held_by (w.id k) (queued_at s (w.job k))) ∙ sym (same_held s t linked next later jr kr b.id b.job named) in
+      let named : Named job_id b.job s.jobs = subst (λ n. Named job_id n s.jobs) (job_stood s b w) (linked.attempt_job w.old w.has) in
+      let same : held_of s w.old ≡ held_of t b = (λ k. held_by (id_stood s b w k) (queued_at s (job_stood s b w k))) ∙ sym (same_held s t linked next later jr kr b.id b.job named) in
       ap (list_any (holds p g)) same ∙ e
 
   -- what is new is in no group that was held
@@ -122,7 +122,7 @@ module _ (s t : State) (linked : Linked s) (next : Linked t) (later : Later s t)
       ⊎_elim
       (λ v. let old = was_in a v p g e in
       ⊎_elim
-      (λ w. sym v.id ∙ (i v.old w.old v.has w.has (v.live live) (w.live lives) p g old (was_in b w p g f) ∙ w.id))
+      (λ w. sym (id_stood s a v) ∙ (i v.old w.old v.has w.has (v.live live) (w.live lives) p g old (was_in b w p g f) ∙ id_stood s b w))
       (λ n. absurd (both_ways (list_any (holds p g) (holders s)) (new_in b n p g f) (in_holders s v.old v.has (v.live live) p g old)))
       (come b l))
       (λ n. ⊎_elim

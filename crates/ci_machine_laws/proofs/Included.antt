@@ -1,6 +1,6 @@
 -- Each job came into its pipeline by its rules, in every state that a history leads to.
-use Rattle.ci_machine_laws.proofs.Prelude.{◌≡◌, ◌⊎◌, ℕ, List, [], ◌∷◌, Ok, refl, sym, ap, subst, ◌∙◌, inl, inr, ⊎_elim, Contains-append_right, Has, Rising, contains_from_has}
-use Rattle.ci_machine_laws.proofs.Prelude.{has_all, new_are, laid_is, lineup_are, job_was}
+use Rattle.ci_machine_laws.proofs.Prelude.{rules, ◌≡◌, ◌⊎◌, ℕ, List, [], ◌∷◌, Ok, refl, sym, ap, subst, ◌∙◌, inl, inr, ⊎_elim, Contains-append_right, Has, Rising}
+use Rattle.ci_machine_laws.proofs.Prelude.{contains_from_has, has_all, new_are, laid_is, lineup_are, job_was}
 use Rattle.ci_machine_steps.specs.Prelude.{BoardRow, Job, Attempt, Event, Seed, Answer, State, job_cmp, new_job, creation, pipeline_created, Past, Leads, job_for_good, IsMadeBy}
 use Rattle.ci_machine_steps.specs.Prelude.{WasIncluded}
 use Rattle.ci_machine_laws.proofs.EachPlan.{given_in}
@@ -69,25 +69,9 @@ alike : (p : Past) (j old : Job) → job_for_good j ≡ job_for_good old → IsM
 alike p j old good m =
     let pipeline : j.pipeline ≡ old.pipeline = ap (λ (w : Job). w.pipeline) good in
     let position : j.position ≡ old.position = ap (λ (w : Job). w.position) good in
-    record {
-      new = m.new;
-      asked = m.asked;
-      reply = m.reply;
-      answered = m.answered;
-      made = m.made;
-      drawn = pipeline ∙ m.drawn;
-      project = m.project;
-      its_project = m.its_project;
-      text = m.text;
-      its_file = m.its_file;
-      configured = m.configured;
-      read = m.read;
-      spec = m.spec;
-      listed = m.listed;
-      as_said = m.as_said;
-      is_included = m.is_included;
-      fixed = good ∙ (m.fixed ∙ sym (λ i. new_job (pipeline i) p.before.next.job (position i) m.as_said));
-    }
+    let drawn : j.pipeline ≡ p.before.next.pipeline = pipeline ∙ m.drawn in
+    let fixed : job_for_good j ≡ new_job j.pipeline p.before.next.job j.position m.as_said = good ∙ (m.fixed ∙ sym (λ i. new_job (pipeline i) p.before.next.job (position i) m.as_said)) in
+    search rules
 
 -- each job of a reached state was included
 included : (h : List Past) (s : State) → Leads h s → (j : Job) → Has j s.jobs → WasIncluded h j

@@ -83,13 +83,13 @@ starts h s board token now seed are i runner q vs at given found offered =
 lengthens : (h : List Past) (s : State) (part : TracePart) (now : ℕ) (seed : Seed) → Inv h s → (a : Attempt) (at size : ℕ) → Has a s.attempts → a.id ≡ part.attempt → is_live a ≡ true
     → let does = grown a part.bytes at size in On h s (Event.Request (AppendTrace part)) now seed (Answer.Reply does.0) (applied does.1 s)
 lengthens h s part now seed i a at size has its live = record {
-  grants = leased.stand h s _ _ i.grants (λ n. refl) (leased.stood_put s _ a has refl refl refl live) (rising_put (λ (b : Attempt). b.id) _ 0 s.attempts i.grants.rise (omega arith)) refl i.grants.jobs_rise;
+  grants = leased.stand h s _ _ i.grants (λ n. refl) (leased.stood_put s _ a has refl live) (rising_put (λ (b : Attempt). b.id) _ 0 s.attempts i.grants.rise (omega arith)) refl i.grants.jobs_rise;
   traces = trace.grows h s _ _ a _ part.bytes i.traces has (i.grants.below a has) refl (λ n. ap (λ m. if m == n then part.bytes else []) (sym its)) refl refl refl;
   ends = finals.puts h s (applied (grown a part.bytes at size).1 s) _ _ refl i.ends (omega arith, in_place s a _ has refl) refl (only_live i a has live refl);
 }
 
 known : (s : State) (b : Attempt) → leased.Stood s b → Was s b ⊎ IsNew s b
-known s b w = inl (w.old, (w.has, w.id))
+known s b w = inl (w.old, (w.has, leased.id_stood s b w))
 
 each : (h : List Past) (s : State) (board : List BoardRow) (e : Event) (now : ℕ) (seed : Seed) → AreBoard s board → Inv h s → EachNext s board e (On h s e now seed)
 each h s board e now seed are i = record {
@@ -107,7 +107,7 @@ each h s board e now seed are i = record {
       let x = record old { seen = seen; state = state } in
       let t : State = record s { attempts = put attempt_cmp x s.attempts } in
       record {
-        grants = leased.stand h s t p i.grants (isnt a quiet.0) (leased.stood_put s x old has refl refl refl live) (rising_put (λ (b : Attempt). b.id) x 0 s.attempts i.grants.rise (omega arith)) refl i.grants.jobs_rise;
+        grants = leased.stand h s t p i.grants (isnt a quiet.0) (leased.stood_put s x old has refl live) (rising_put (λ (b : Attempt). b.id) x 0 s.attempts i.grants.rise (omega arith)) refl i.grants.jobs_rise;
         traces = trace.stays h s t p i.traces quiet.1 refl (omega arith) (in_place s old x has refl);
         ends = finals.puts h s t p x refl i.ends (omega arith, in_place s old x has refl) refl (only_live i old has live refl);
       };

@@ -25,6 +25,7 @@ pub fn what_is_due_ends()
 /// Of two pipelines of `main` the older one's first job was granted at 1000, and is interruptible. At 1120 a sweep ends its lease, which leaves both
 /// pipelines unfinished; the next cancels the older pipeline, for its second job is pending; and the third finds nothing. A second earlier
 /// the lease isn't over, and the first sweep cancels the pipeline at once.
+#[tactic(auto, using(crate::proofs::Computed::computed))]
 pub fn sweep_examples()
     ensures before { AreBoard overtaken (third_waits Status.Running Status.Pending) }
     ensures count { unended overtaken (third_waits Status.Running Status.Pending) ≡ 3 }
