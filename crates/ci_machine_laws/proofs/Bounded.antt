@@ -1,6 +1,6 @@
 -- The numbers of jobs stay within their limit, in every state that a history leads to.
-use Rattle.ci_machine_laws.proofs.Prelude.{ℕ, rules, Given, created_state, ◌≡◌, ◌+◌, ◌-◌, ◌≤◌, Bool, true, false, ◌||◌, nat_lt, List, [], ◌∷◌, length, sym, subst, arith}
-use Rattle.ci_machine_laws.proofs.Prelude.{false≢true, ltb-false, new_length}
+use Rattle.ci_machine_laws.proofs.Prelude.{or_parts, ℕ, rules, Given, created_state, ◌≡◌, ◌+◌, ◌-◌, ◌≤◌, false, nat_lt, List, [], ◌∷◌, length, sym, subst, arith, ltb-false}
+use Rattle.ci_machine_laws.proofs.Prelude.{new_length}
 use Rattle.ci_machine_steps.specs.Prelude.{NewPipeline, Layout, lacks_numbers, creation, MAX_NUMBER, BoardRow, Event, State, Past, Leads}
 use Rattle.ci_machine_laws.proofs.EachNext.{EachNext, next_is}
 use Rattle.ci_machine_laws.proofs.Reached.{reached}
@@ -9,16 +9,12 @@ use Rattle.ci_machine_laws.proofs.Reached.{reached}
 abbrev pub IsWithinLimit : State → Type 0
 IsWithinLimit s = s.next.job ≤ MAX_NUMBER + 1
 
-or_right : (a b : Bool) → (a || b) ≡ false → b ≡ false
-or_right true b e = absurd (false≢true (sym e))
-or_right false b e = e
-
 made : (s : State) (new : NewPipeline) (given : Given) (now : ℕ) (laid : Layout) → lacks_numbers s.next.pipeline s.next.job (length laid.plan.jobs) ≡ false
     → IsWithinLimit (created_state s.next.job (creation s.next.pipeline s.next.job new given now laid) s)
 made s new given now laid fits =
     let first = s.next.job in
     let last = first + length laid.plan.jobs - 1 in
-    let below : last ≤ MAX_NUMBER = ltb-false MAX_NUMBER last (or_right (nat_lt MAX_NUMBER s.next.pipeline) (nat_lt MAX_NUMBER last) fits) in
+    let below : last ≤ MAX_NUMBER = ltb-false MAX_NUMBER last (or_parts (nat_lt MAX_NUMBER s.next.pipeline) (nat_lt MAX_NUMBER last) fits).1 in
     omega (arith, new_length s.next.pipeline first 0 laid.plan.jobs)
 
 stays : (s : State) (board : List BoardRow) (e : Event) → IsWithinLimit s → EachNext s board e (λ _ t. IsWithinLimit t)

@@ -115,17 +115,10 @@ gives h s t p x i at_next free grant_of runner job its_runner its_job eligible a
           (λ w. i.is_last b c m w lv j) (cases c l))
           (cases b k);
       granted = λ b k. ⊎_elim
-          (λ q. subst (WasGiven (p ∷ h)) (sym q) (record {
-            line = p;
-            once = cond-true (grants x.id p) (p ∷ filter (grants x.id) h) (filter (grants x.id) h) (grant_of x.id ∙ eq-eqb x.id x.id refl)
-                ∙ ap (λ l. p ∷ l) (i.fresh x.id (let z : s.next.attempt ≤ x.id = omega arith in z));
-            runner = runner;
-            job = job;
-            its_runner = its_runner;
-            its_job = its_job;
-            eligible = eligible;
-            asked = asked;
-          }))
+          (λ q. subst (WasGiven (p ∷ h)) (sym q) (
+          let once : filter (grants x.id) (p ∷ h) ≡ p ∷ []
+          = cond-true (grants x.id p) (p ∷ filter (grants x.id) h) (filter (grants x.id) h) (grant_of x.id ∙ eq-eqb x.id x.id refl) ∙ ap (λ l. p ∷ l) (i.fresh x.id (omega arith)) in
+          search rules))
           (λ m. longer p h b b (grant_of b.id ∙ ne_eqb x.id b.id (λ u. let z : b.id < s.next.attempt = i.below b m in absurd (omega arith))) refl refl refl (i.granted b m))
           (cases b k);
       fresh = λ n l. let m : s.next.attempt + 1 ≤ n = subst (λ w. w ≤ n) f l in

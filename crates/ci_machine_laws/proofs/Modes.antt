@@ -1,8 +1,8 @@
 -- A request that sets the process mode of a resource group changes that of no other group, and nothing else; and no other event changes one.
-use Rattle.ci_machine_laws.proofs.Prelude.{rules, ◌≡◌, ℕ, Bool, true, false, cond, ◌==◌, ◌&&◌, not, List, [], ◌∷◌, filter, find, Option, Some, None, option_map, Result, Ok, Err}
-use Rattle.ci_machine_laws.proofs.Prelude.{Ordering, Equal, nat_cmp, is_eq, is_lt, refl, sym, ap, subst, ◌∙◌, inl, inr, ⊎_elim, eqb-true, eq-eqb, bytes_eq, slice_cmp, cond_both}
-use Rattle.ci_machine_laws.proofs.Prelude.{cond-true, cond-false, cases_Bool, both_ways, and_parts, bytes_eq-Decides, Has, has_filter, same, equal, find_implied, ordering_then}
-use Rattle.std.proofs.lemmas.Map.Text.{is_eq-slice_cmp}
+use Rattle.ci_machine_laws.proofs.Prelude.{cases_eq, false_from_ne_true, ne_eqb, not_true, rules, ◌≡◌, ℕ, Bool, true, false, cond, ◌==◌, ◌&&◌, not, List, [], ◌∷◌, filter, find}
+use Rattle.ci_machine_laws.proofs.Prelude.{Option, Some, None, option_map, Result, Ok, Err, Ordering, Equal, nat_cmp, is_eq, is_lt, refl, sym, ap, subst, ◌∙◌, inl, inr, ⊎_elim}
+use Rattle.ci_machine_laws.proofs.Prelude.{eqb-true, eq-eqb, bytes_eq, slice_cmp, cond_both, cond-true, cond-false, cases_Bool, both_ways, and_parts, bytes_eq-Decides, Has}
+use Rattle.ci_machine_laws.proofs.Prelude.{has_filter, same, equal, find_implied, ordering_then, is_eq-slice_cmp}
 use Rattle.ci_machine_steps.specs.Prelude.{BoardRow, Project, GroupMode, GroupOrder, NewMode, SetMode, Event, Seed, Answer, Code, State, placed, mode_cmp, applied, is_mode_of}
 use Rattle.ci_machine_steps.specs.Prelude.{Plan, mode_change, set_mode, Step, IsReached, IsRefusal}
 use Rattle.ci_machine_laws.specs.Modes.{SetsMode}
@@ -19,12 +19,9 @@ then_equal o r = refl
 compared : (a b : ℕ) → is_eq (nat_cmp a b) ≡ (a == b)
 compared a b =
     ⊎_elim
-    (λ (t : is_eq (nat_cmp a b) ≡ true). t ∙ sym (eq-eqb a b (same a b t)))
-    (λ (f : is_eq (nat_cmp a b) ≡ false). ⊎_elim
-    (λ (t : (a == b) ≡ true). absurd (both_ways (is_eq (nat_cmp a b)) f (equal a b (eqb-true a b t))))
-    (λ (g : (a == b) ≡ false). f ∙ sym g)
-    (cases_Bool (a == b)))
-    (cases_Bool (is_eq (nat_cmp a b)))
+    (λ e. equal a b e ∙ sym (eq-eqb a b e))
+    (λ d. false_from_ne_true (is_eq (nat_cmp a b)) (λ t. d (same a b t)) ∙ sym (ne_eqb a b d))
+    (cases_eq a b)
 
 -- a mode has this key where it is that of this group of the project
 has_key : (project : ℕ) (group : List ℕ) (m : GroupMode) → is_eq (ordering_then (nat_cmp m.project project) (slice_cmp nat_cmp m.group group)) ≡ is_mode_of project group m
@@ -57,14 +54,10 @@ found_none p (y ∷ ys) none = cond-false (p y) (Some y) (find p ys) (none y (in
 abbrev left : ℕ → List ℕ → List GroupMode → List GroupMode
 left project group modes = filter (λ m. not (is_eq (ordering_then (nat_cmp m.project project) (slice_cmp nat_cmp m.group group)))) modes
 
-isnt : (b : Bool) → not b ≡ true → b ≡ false
-isnt true e = sym e
-isnt false e = refl
-
 not_left : (project : ℕ) (group : List ℕ) (modes : List GroupMode) (m : GroupMode) → Has m (left project group modes) → is_mode_of project group m ≡ false
 not_left project group modes m k =
     let of = has_filter (λ (w : GroupMode). not (is_eq (ordering_then (nat_cmp w.project project) (slice_cmp nat_cmp w.group group)))) m modes k in
-    isnt (is_mode_of project group m) (sym (ap not (has_key project group m)) ∙ of.1)
+    not_true (is_mode_of project group m) (sym (ap not (has_key project group m)) ∙ of.1)
 
 -- a mode of one group isn't that of another
 not_of : (project other : ℕ) (group name : List ℕ) → ((other ≡ project) × (name ≡ group) → ⊥) → (m : GroupMode) → is_mode_of other name m ≡ true → is_mode_of project group m ≡ false

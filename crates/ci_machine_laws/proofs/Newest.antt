@@ -1,34 +1,32 @@
 -- The pipelines that are listed of a project are its newest.
-use Rattle.ci_machine_laws.proofs.Prelude.{◌≡◌, ◌⊎◌, ◌<◌, ℕ, zero, suc, ◌+◌, Bool, ◌==◌, List, [], ◌∷◌, ◌++◌, length, map, filter, take, reverse, All, Contains, None, nat_cmp}
-use Rattle.ci_machine_laws.proofs.Prelude.{is_lt, Less, refl, sym, ap, subst, ◌∙◌, inl, inr, ⊎_elim, arith, eqb-true, eq-eqb, AllByRecursion, Has, Rising, rising_from}
+use Rattle.ci_machine_laws.proofs.Prelude.{Ordered, map_has, ◌≡◌, ◌⊎◌, ◌<◌, ℕ, zero, suc, ◌+◌, Bool, ◌==◌, List, [], ◌∷◌, ◌++◌, length, map, filter, take, reverse, All, Contains}
+use Rattle.ci_machine_laws.proofs.Prelude.{None, nat_cmp, is_lt, Less, refl, sym, ap, subst, ◌∙◌, inl, inr, ⊎_elim, arith, eqb-true, eq-eqb, Has, Rising, rising_from}
 use Rattle.ci_machine_laws.proofs.Prelude.{rising_filter, has_filter, filter_has, All-from_has, contains_from_has, less, nat_less, in_either, has_left, has_right}
 use Rattle.ci_machine_laws.proofs.Prelude.{rising_from_ascend}
-use Rattle.std.specs.List.Sorted.{IsStrictlySortedBy}
 use Rattle.std.proofs.lemmas.Grind.{reverse_onto}
 use Rattle.ci_machine_steps.specs.Prelude.{LISTED_PIPELINES, Pipeline, BoardRow, Event, Read, ReadQuery, Subject, Seed, Reply, Answer, RowChange, State, applied, Plan}
 use Rattle.ci_machine_steps.specs.Prelude.{listed_pipelines, Step, Happens, IsReached}
 use Rattle.ci_machine_laws.specs.Reads.{AreNewest, TellsNewest}
 use Rattle.ci_machine_laws.proofs.EachPlan.{of_read, read_told}
-use Rattle.ci_machine_laws.proofs.Numbers.{sound_reached}
+use Rattle.ci_machine_laws.proofs.Numbers.{ascend, sound_reached}
 
 -- ---- lists whose numbers fall
 
 module _ {A : Type 0} (id : A → ℕ) where
   -- each number is greater than those after it
   abbrev Falls : List A → Type 0
-  Falls xs = IsStrictlySortedBy (λ a b. nat_cmp b a) (map id xs)
+  Falls xs = Ordered (λ a b. nat_cmp (id b) (id a)) xs
 
   -- each number is greater than x's
   abbrev Above : A → List A → Type 0
   Above x ys = (y : A) → Has y ys → id x < id y
 
   falls_last : (x : A) (ys : List A) → Falls ys → Above x ys → Falls (ys ++ x ∷ [])
-  unfolding IsStrictlySortedBy
-  falls_last x [] f h = (tt, tt)
-  falls_last x (y ∷ ys) f h = (last_less x y ys f.0 (h y (inl refl)), falls_last x ys f.1 (λ z k. h z (inr k))) where
-    last_less : (x y : A) (ys : List A) → AllByRecursion (λ n. nat_cmp n (id y) ≡ Less) (map id ys) → id x < id y → AllByRecursion (λ n. nat_cmp n (id y) ≡ Less) (map id (ys ++ x ∷ []))
-    last_less x y [] all l = (nat_less (id x) (id y) l, tt)
-    last_less x y (z ∷ zs) all l = (all.0, last_less x y zs all.1 l)
+  falls_last x [] f h = (λ y k. absurd k, tt)
+  falls_last x (y ∷ ys) f h = (
+    (λ z k. ⊎_elim (f.0 z) (λ m. ⊎_elim (λ e. nat_less (id z) (id y) (subst (λ (w : A). id w < id y) (sym e) (h y (inl refl)))) (λ n. absurd n) m) (in_either z ys (x ∷ []) k)),
+    falls_last x ys f.1 (λ z k. h z (inr k)),
+  )
 
   turned : (x : A) (xs : List A) → reverse (x ∷ xs) ≡ reverse xs ++ x ∷ []
   turned x xs = reverse_onto xs x []
@@ -45,42 +43,33 @@ module _ {A : Type 0} (id : A → ℕ) where
 
   -- a list whose numbers rise falls where it is turned
   falls_reverse : (low : ℕ) (xs : List A) → Rising id low xs → Falls (reverse xs)
-  unfolding IsStrictlySortedBy
   falls_reverse low [] r = tt
   falls_reverse low (x ∷ xs) r =
       subst Falls (sym (turned x xs)) (falls_last x (reverse xs) (falls_reverse (id x + 1) xs r.1)
       (λ y k. let z = rising_from id y (id x + 1) xs r.1 (has_reverse y xs k) in omega (arith, z)))
-
-  falls_below : (y : A) (xs : List A) (n : ℕ) → AllByRecursion (λ m. nat_cmp m (id y) ≡ Less) (map id xs) → AllByRecursion (λ m. nat_cmp m (id y) ≡ Less) (map id (take n xs))
-  falls_below y xs zero all = tt
-  falls_below y [] (suc n) all = tt
-  falls_below y (x ∷ xs) (suc n) all = (all.0, falls_below y xs n all.1)
-
-  falls_take : (n : ℕ) (xs : List A) → Falls xs → Falls (take n xs)
-  unfolding IsStrictlySortedBy
-  falls_take zero xs f = tt
-  falls_take (suc n) [] f = tt
-  falls_take (suc n) (x ∷ xs) f = (falls_below x xs n f.0, falls_take n xs f.1)
 
   take_has : (n : ℕ) (y : A) (xs : List A) → Has y (take n xs) → Has y xs
   take_has zero y xs h = absurd h
   take_has (suc n) y [] h = h
   take_has (suc n) y (x ∷ xs) h = ⊎_elim (λ e. inl e) (λ k. inr (take_has n y xs k)) h
 
-  is_less : (x y : A) (xs : List A) → AllByRecursion (λ m. nat_cmp m (id y) ≡ Less) (map id xs) → Has x xs → id x < id y
-  is_less x y [] all k = absurd k
-  is_less x y (z ∷ zs) all k =
-      ⊎_elim (λ e. less (id x) (id y) (ap (λ (w : A). is_lt (nat_cmp (id w) (id y))) e ∙ ap is_lt all.0)) (λ m. is_less x y zs all.1 m) k
+  falls_take : (n : ℕ) (xs : List A) → Falls xs → Falls (take n xs)
+  falls_take zero xs f = tt
+  falls_take (suc n) [] f = tt
+  falls_take (suc n) (x ∷ xs) f = (λ y k. f.0 y (take_has n y xs k), falls_take n xs f.1)
+
+  numbers_fall : (xs : List A) → Falls xs → Ordered (λ a b. nat_cmp b a) (map id xs)
+  numbers_fall [] f = tt
+  numbers_fall (x ∷ xs) f = (λ n k. let w = map_has id n xs k in subst (λ m. nat_cmp m (id x) ≡ Less) w.1.1 (f.0 w.0 w.1.0), numbers_fall xs f.1)
 
   -- an element is among the first n, or these are n, and its number is less than theirs
   left_out : (n : ℕ) (p : A) (xs : List A) → Falls xs → Has p xs → Has p (take n xs) ⊎ ((length (take n xs) ≡ n) × Above p (take n xs))
-  unfolding IsStrictlySortedBy
   left_out zero p xs f k = inr (refl, λ y m. absurd m)
   left_out (suc n) p [] f k = absurd k
   left_out (suc n) p (x ∷ xs) f k =
       ⊎_elim (λ e. inl (inl e))
       (λ m. ⊎_elim (λ h. inl (inr h))
-      (λ h. inr (ap suc h.0, λ y j. ⊎_elim (λ e. subst (λ (w : A). id p < id w) (sym e) (is_less p x xs f.0 m)) (λ i. h.1 y i) j))
+      (λ h. inr (ap suc h.0, λ y j. ⊎_elim (λ e. subst (λ (w : A). id p < id w) (sym e) (less (id p) (id x) (ap is_lt (f.0 p m)))) (λ i. h.1 y i) j))
       (left_out n p xs f.1 m)) k
 
 -- ---- the pipelines of a project
@@ -89,7 +78,7 @@ module _ {A : Type 0} (id : A → ℕ) where
 listed_newest : (s : State) (project : ℕ) → Rising (λ (p : Pipeline). p.id) 0 s.pipelines → AreNewest s project (listed_pipelines s project)
 listed_newest s project rise = record {
   own = All-from_has Own shown (λ p k. let at = has_filter is_its p s.pipelines (has_reverse id p its (take_has id LISTED_PIPELINES p (reverse its) k)) in (contains_from_has p s.pipelines at.0, eqb-true p.project project at.1));
-  fall = falls_take id LISTED_PIPELINES (reverse its) falls;
+  fall = ascend (λ a b. nat_cmp b a) (map id shown) (numbers_fall id shown (falls_take id LISTED_PIPELINES (reverse its) falls));
   newest = All-from_has IsListed s.pipelines (λ p k of. ⊎_elim
       (λ h. inl (contains_from_has p shown h))
       (λ h. inr (h.0, All-from_has (λ (q : Pipeline). p.id < q.id) shown h.1))

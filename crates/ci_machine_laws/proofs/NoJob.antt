@@ -1,8 +1,8 @@
 -- Where a runner is told that there is no job, none of the pending ones is one that it may be given.
-use Rattle.ci_machine_laws.proofs.Prelude.{◌≡◌, ◌⊎◌, ℕ, Bool, true, false, not, ◌==◌, ◌&&◌, ◌||◌, nat_lt, List, [], ◌∷◌, All, Contains, Option, Some, None, option_map, refl, sym}
-use Rattle.ci_machine_laws.proofs.Prelude.{ap, subst, ◌∙◌, inl, inr, ⊎_elim, eqb-true, eq-eqb, ltb-true, lt-ltb, list_any, list_all, bytes_eq, cond_both, both_ways, false≢true}
-use Rattle.ci_machine_laws.proofs.Prelude.{and_parts, and_from, and_cases, or_left, or_right, bytes_eq-Decides, not_true, Has, Rising, has_filter, filter_has, has_find, has_map}
-use Rattle.ci_machine_laws.proofs.Prelude.{All-from_has, contains_from_has, has_from_contains, any_has, has_any, any_joined}
+use Rattle.ci_machine_laws.proofs.Prelude.{not-false, or_cases, ◌≡◌, ◌⊎◌, ℕ, Bool, true, false, not, ◌==◌, ◌&&◌, ◌||◌, nat_lt, List, [], ◌∷◌, All, Contains, Option, Some, None}
+use Rattle.ci_machine_laws.proofs.Prelude.{option_map, refl, sym, ap, subst, ◌∙◌, inl, inr, ⊎_elim, eqb-true, eq-eqb, ltb-true, lt-ltb, list_any, list_all, bytes_eq, cond_both}
+use Rattle.ci_machine_laws.proofs.Prelude.{both_ways, false≢true, and_parts, and_from, and_cases, or_left, or_right, bytes_eq-Decides, not_true, Has, Rising, has_filter}
+use Rattle.ci_machine_laws.proofs.Prelude.{filter_has, has_find, has_map, All-from_has, contains_from_has, has_from_contains, any_has, has_any, any_joined}
 use Rattle.ci_machine_steps.specs.Prelude.{MAX_NUMBER, Status, BoardRow, GroupOrder, OldestFirst, NewestReadyFirst, Job, JobVariable, QueuedJob, Runner, WaitingJob, Event}
 use Rattle.ci_machine_steps.specs.Prelude.{AskJob, Seed, Answer, M15, NoContent, Reply, State, status_for, AreBoard, is_live, is_open_to, has_tag, takes, may_run, holds}
 use Rattle.ci_machine_steps.specs.Prelude.{claims_group, is_free, resource_free, is_eligible, chosen, order_of, goes_before_in, claims_on, is_in_line, is_behind, queued_at}
@@ -20,14 +20,6 @@ use Rattle.ci_machine_laws.proofs.OneBoard.{OneAssignment, one_board}
 use Rattle.ci_machine_laws.proofs.Held as every
 
 -- ---- tests
-
-not_false : (b : Bool) → not b ≡ false → b ≡ true
-not_false true e = refl
-not_false false e = absurd (false≢true (sym e))
-
-either : (a b : Bool) → (a || b) ≡ true → (a ≡ true) ⊎ (b ≡ true)
-either true b e = inl refl
-either false b e = inr e
 
 -- one that doesn't pass
 all_has : {A : Type 0} (p : A → Bool) (xs : List A) → list_all p xs ≡ false → (x : A) × (Has x xs × (p x ≡ false))
@@ -194,10 +186,10 @@ module _ (s : State) (board : List BoardRow) (rise : Rising (λ (j : Job). j.id)
     group_waits None is e = absurd (false≢true (sym e))
     group_waits (Some group) is e =
         let project = (queued s job).project in
-        let claim = not_false (list_any (claims_group project group) (claims_on (groups_in s board) job.pipeline)) e in
+        let claim = not-false (list_any (claims_group project group) (claims_on (groups_in s board) job.pipeline)) e in
         waits project group (has_group job k project group refl is)
         (⊎_elim (λ h. is_held project group job.pipeline h) (λ b. goes_behind project group job.pipeline b)
-        (either (list_any (holds project group) (holders s)) _ (sym (any_claim (groups_in s board) job.pipeline project group) ∙ claim)))
+        (or_cases (list_any (holds project group) (holders s)) _ (sym (any_claim (groups_in s board) job.pipeline project group) ∙ claim)))
 
     not_for : is_eligible runner (groups_in s board) (queued s job) ≡ false → Not
     not_for e =
@@ -205,7 +197,7 @@ module _ (s : State) (board : List BoardRow) (rise : Rising (λ (j : Job). j.id)
         let tags = job.options.tags in
         ⊎_elim
         (λ m. ⊎_elim
-        (λ n. ⊎_elim (λ p. paused (not_false runner.paused p)) (λ o. other_project runner.project refl o) (and_cases (not runner.paused) (is_open_to runner.project project) n))
+        (λ n. ⊎_elim (λ p. paused (not-false runner.paused p)) (λ o. other_project runner.project refl o) (and_cases (not runner.paused) (is_open_to runner.project project) n))
         (λ t. other_tags tags refl t)
         (and_cases (not runner.paused && is_open_to runner.project project) (takes runner tags) m))
         (λ f. group_waits job.options.resource_group refl f)

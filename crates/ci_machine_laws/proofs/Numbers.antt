@@ -1,6 +1,6 @@
 -- Every state that a history leads to is sound.
-use Rattle.ci_machine_laws.proofs.Prelude.{◌<◌, All, true, Some, rules, ◌≡◌, List, [], ◌∷◌, Ordering, Less, refl, sym, subst, inl, inr, AllByRecursion, IsTotalOrder}
-use Rattle.ci_machine_laws.proofs.Prelude.{nat_cmp_total, on_total, then_total, nat_list_cmp_total, Has, All-from_has, ascend_from_rising, Ordered, filter_ordered, put_ordered}
+use Rattle.ci_machine_laws.proofs.Prelude.{all_from_has, ◌<◌, All, true, Some, rules, ◌≡◌, List, [], ◌∷◌, Ordering, Less, sym, subst, IsTotalOrder, nat_cmp_total, on_total}
+use Rattle.ci_machine_laws.proofs.Prelude.{then_total, nat_list_cmp_total, All-from_has, ascend_from_rising, Ordered, filter_ordered, put_ordered}
 use Rattle.ci_machine_steps.specs.Prelude.{Job, Attempt, is_live, last_attempt, Need, RowChange, Put, Append, Remove, Record, Key, State, need_cmp, GroupMode, mode_cmp}
 use Rattle.ci_machine_steps.specs.Prelude.{with_record, without_record, changed, applied, Past, Leads, IsReached, IsSound}
 use Rattle.std.specs.List.Sorted.{IsStrictlySortedBy}
@@ -40,14 +40,10 @@ pub in_order : (h : List Past) (s : State) → Leads h s → InOrder s
 in_order [] s l = subst InOrder (sym l) (tt, tt)
 in_order (p ∷ h) s l = subst InOrder (sym l.1.state) (changes l.1.changes p.before (in_order h p.before l.0))
 
-all_less : {A : Type 0} (cmp : A → A → Ordering) (x : A) (xs : List A) → ((y : A) → Has y xs → cmp x y ≡ Less) → AllByRecursion (λ y. cmp x y ≡ Less) xs
-all_less cmp x [] h = tt
-all_less cmp x (y ∷ ys) h = (h y (inl refl), all_less cmp x ys (λ w k. h w (inr k)))
-
 pub ascend : {A : Type 0} (cmp : A → A → Ordering) (xs : List A) → Ordered cmp xs → IsStrictlySortedBy cmp xs
 unfolding IsStrictlySortedBy
 ascend cmp [] o = tt
-ascend cmp (x ∷ xs) o = (all_less cmp x xs o.0, ascend cmp xs o.1)
+ascend cmp (x ∷ xs) o = (all_from_has (λ y. cmp x y ≡ Less) xs o.0, ascend cmp xs o.1)
 
 -- ---- every state that a history leads to
 

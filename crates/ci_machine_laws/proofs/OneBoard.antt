@@ -1,6 +1,6 @@
 -- The statuses of each reached state are one assignment.
-use Rattle.ci_machine_laws.proofs.Prelude.{rising_from, ◌≡◌, ◌⊎◌, ℕ, zero, suc, ◌+◌, ◌^◌, ◌<◌, ◌≤◌, Bool, true, cond, ◌==◌, ◌||◌, nat_lt, List, [], ◌∷◌, length, map, filter}
-use Rattle.ci_machine_laws.proofs.Prelude.{count_by, All, Contains, refl, sym, ap, subst, ◌∙◌, inl, inr, ⊎_elim, arith, eq-eqb, eqb-true, lt-ltb, cases_Bool, cases_lt}
+use Rattle.ci_machine_laws.proofs.Prelude.{rules, rising_from, ◌≡◌, ◌⊎◌, ℕ, zero, suc, ◌+◌, ◌^◌, ◌<◌, ◌≤◌, Bool, true, cond, ◌==◌, ◌||◌, nat_lt, List, [], ◌∷◌, length, map}
+use Rattle.ci_machine_laws.proofs.Prelude.{filter, count_by, All, Contains, refl, sym, ap, subst, ◌∙◌, inl, inr, ⊎_elim, arith, eq-eqb, eqb-true, lt-ltb, cases_Bool, cases_lt}
 use Rattle.ci_machine_laws.proofs.Prelude.{false≢true, cond-true, cond-false, le-ltb, get_or-map, length-map, number_at, list_at, times, once, is_among, distinct, IsOrder}
 use Rattle.ci_machine_laws.proofs.Prelude.{IsStuck, AreWithin, IsWalk, IsAcyclic, firsts_of, has_pair, JobGraph, IsJobGraph, part_at, predecessors_of, row_at, Has, Rising, Below}
 use Rattle.ci_machine_laws.proofs.Prelude.{rising_filter, has_filter, filter_has, find_has, has_map, map_has, contains_from_has, has_from_contains, has_from_all, All-from_has}
@@ -320,15 +320,8 @@ no_circle_in s rise i is = record {
   joined = All-from_has (JoinsOnePipeline s) s.needs (λ w h.
       let j = i.need_job w h in
       let k = i.need_pred w h in
-      record {
-        job = j.0;
-        pred = k.0;
-        is_job = contains_from_has j.0 s.jobs j.1.0;
-        is_pred = contains_from_has k.0 s.jobs k.1.0;
-        its_job = j.1.1;
-        its_pred = k.1.1;
-        one_pipeline = is.one_pipeline w j.0 k.0 h j.1.0 k.1.0 j.1.1 k.1.1;
-      });
+      let one_pipeline = is.one_pipeline w j.0 k.0 h j.1.0 k.1.0 j.1.1 k.1.1 in
+      search (rules, contains_from_has));
   within = λ pipeline. pairs_within s pipeline rise i is;
   acyclic = λ pipeline. pairs_acyclic s pipeline rise i is;
 }

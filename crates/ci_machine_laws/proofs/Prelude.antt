@@ -5,14 +5,15 @@ pub use Rattle.std.proofs.Common.{Result, Ok, Err, ◌&&◌, flat_map, eq-eqb, n
 pub use Rattle.std.proofs.Common.{lt-ltb, ◌^◌, option_and_then, nat_le, leb-true, max, slice_index_or, codes}
 pub use Rattle.std.specs.Cmp.{IsTotalOrder, Equal-is}
 pub use Rattle.std.specs.Cmp.Lexicographic.{slice_cmp}
-pub use Rattle.std.specs.List.{last_or, range_with_len, list_any, AllByRecursion, list_all}
+pub use Rattle.std.specs.List.{last_or, range_with_len, list_any, list_all}
 pub use Rattle.std.specs.Ordering.{ordering_then}
 pub use Rattle.std.specs.Str.{bytes_eq}
-pub use Rattle.std.proofs.lemmas.Bool.{and_parts, cond_both, cond-true, cond-false, false≢true, ltb-false, both_ways, cases_Bool, and_from, and_cases, or_left, or_right}
-pub use Rattle.std.proofs.lemmas.Bool.{cases_lt, le-ltb, false_from_ne_true, and_left}
+pub use Rattle.std.proofs.lemmas.Bool.{and_parts, cond_both, cond-true, cond-false, or_parts, ltb-false, false≢true, both_ways, cases_Bool, cases_eq, false_from_ne_true}
+pub use Rattle.std.proofs.lemmas.Bool.{not-false, or_cases, and_from, and_cases, or_left, or_right, cases_lt, le-ltb, and_left}
 pub use Rattle.std.proofs.lemmas.Cmp.{nat_cmp_total, on_total, then_total, nat_list_cmp_total}
 pub use Rattle.std.proofs.lemmas.List.{length-map, length-append, get_or-map, append-nil}
 pub use Rattle.std.proofs.lemmas.List.Elements.{filter-append, Contains-append_right}
+pub use Rattle.std.proofs.lemmas.Map.Text.{is_eq-slice_cmp}
 pub use Rattle.std.proofs.lemmas.Slice.Eq.{bytes_eq-Decides}
 pub use Rattle.ci_board.specs.Prelude.{row_at}
 pub use Rattle.ci_graph_layout.specs.Prelude.{Given, MAX_TAGS, Config, MAX_VARIABLES, Plans, faulty, cyclic, X8, Patterns, built, Fault, K13, LacksPatterns, meaning, Means}
@@ -21,7 +22,7 @@ pub use Rattle.ci_graph_layout.specs.declared.fault.GraphCode.{GraphCode}
 pub use Rattle.ci_machine.proofs.Filters.{filter_implied, find_implied, filter_all}
 pub use Rattle.ci_machine.proofs.Keyed.{Has, has_filter, map_has, All-from_has, contains_from_has, has_from_contains, has_map, Below, has_find, find-map, Rising, put_has}
 pub use Rattle.ci_machine.proofs.Keyed.{unequal, not_true, has_put, rising_put, rising_filter, filter_has, last_greatest, count_one, find_has, Named, contains_named, same}
-pub use Rattle.ci_machine.proofs.Keyed.{one_at, equal, filter_none, rising_from, less, has_from_all, least_find, named_contains, has_put_other, different}
+pub use Rattle.ci_machine.proofs.Keyed.{one_at, equal, filter_none, rising_from, less, all_from_has, has_from_all, least_find, named_contains, has_put_other, different}
 pub use Rattle.ci_machine.proofs.Tests.{any_has, has_any, any_joined}
 pub use Rattle.ci_machine.specs.Prelude.{Part, JobGraph, part_at, Failed, IsWalk, HasWalk, IsAcyclic, number_at, list_at, times, once, is_among, distinct, IsOrder, IsStuck}
 pub use Rattle.ci_machine.specs.Prelude.{AreWithin, firsts_of, has_pair, IsJobGraph, predecessors_of}

@@ -3,8 +3,7 @@ use Rattle.ci_machine_laws.proofs.Prelude.{◌≡◌, ◌⊎◌, ℕ, true, not,
 use Rattle.ci_machine_laws.proofs.Prelude.{is_eq, Ordering, Less, refl, sym, ap, subst, ◌∙◌, inl, inr, ⊎_elim, eqb-true, eq-eqb, bytes_eq, slice_cmp, Equal-is, cases_Bool}
 use Rattle.ci_machine_laws.proofs.Prelude.{both_ways, and_parts, nat_list_cmp_total, bytes_eq-Decides, Has, Rising, has_put, put_has, has_filter, filter_has, has_map, map_has}
 use Rattle.ci_machine_laws.proofs.Prelude.{has_find, find_has, All-from_has, contains_from_has, has_from_contains, equal, any_has, has_any, in_either, has_left, has_right}
-use Rattle.ci_machine_laws.proofs.Prelude.{Ordered, filter_ordered, put_ordered, rising_from_ascend, ordering_then}
-use Rattle.std.proofs.lemmas.Map.Text.{is_eq-slice_cmp}
+use Rattle.ci_machine_laws.proofs.Prelude.{Ordered, filter_ordered, put_ordered, rising_from_ascend, ordering_then, is_eq-slice_cmp}
 use Rattle.ci_machine_steps.specs.Prelude.{Attempt, GroupMode, Holder, QueuedJob, Event, Read, ReadQuery, Subject, Seed, Reply, Answer, State, mode_cmp, put, attempt_at}
 use Rattle.ci_machine_steps.specs.Prelude.{live_attempts, is_live, holds, group_held, held_by, held_of, queued_at, holders, holders_in, modes_in, with_names, group_names, Step}
 use Rattle.ci_machine_steps.specs.Prelude.{IsReached}
