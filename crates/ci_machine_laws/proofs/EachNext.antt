@@ -216,11 +216,11 @@ module _ (s : State) (board : List BoardRow) (Q : Answer → State → Type 0) w
       let job = job_at s query.job in
       let status = status_for board query.job in
       let claims = claims_in s board (pipeline_or_none job) in
-      subst P (sym is) (asked (λ r. P (shown claims query.project r status)) job (λ j _. steady _ next (job_shown claims query.project j status).0 refl refl refl) (refuses _ next) (project_with s query.token) (pipeline_of s job) query)
+      subst P (sym is) (asked (λ r. P (shown claims query.project r status)) (project_with s query.token) job (pipeline_of s job) query (λ j _. steady _ next (job_shown claims query.project j status).0 refl refl refl) (refuses _ next))
   does (ShowTrace query) next now seed plan is =
       let job = job_at s query.job in
       let trace = trace_if_any s (last_attempt s query.job) in
-      subst P (sym is) (asked (λ r. P (traced r trace)) job (λ _ _. steady _ next (trace_shown trace).0 refl refl refl) (refuses _ next) (project_with s query.token) (pipeline_of s job) query)
+      subst P (sym is) (asked (λ r. P (traced r trace)) (project_with s query.token) job (pipeline_of s job) query (λ _ _. steady _ next (trace_shown trace).0 refl refl refl) (refuses _ next))
   does (Read query) next now seed plan is = subst P (sym is) (of_read P (refuses _ next) (λ body. steady _ next (fine body) refl refl refl) s board query)
   does (Play query) next now seed plan is = acts_on s board P (refuses _ next) (acts_by _ next) play (plays s) is_playable M10 tt query plan is
   does (CancelJob query) next now seed plan is =

@@ -149,23 +149,36 @@ abbrev Found : State → Result Job Code → Type 0
 Found s (Ok job) = Has job s.jobs
 Found s (Err code) = IsMachineCode code
 
--- a query names a job, or is refused
-within : (Q : Result Job Code → Type 0) (job : Option Job) → ((j : Job) → job ≡ Some j → Q (Ok j)) → ((c : Code) → IsMachineCode c → Q (Err c)) → (pipeline : Option Pipeline) (project : ℕ) → Q (job_within job pipeline project)
-within Q None fine refused pipeline project = refused M3 tt
-within Q (Some job) fine refused None project = refused M3 tt
-within Q (Some job) fine refused (Some pipeline) project = cond_both (pipeline.project == project) (Ok job) (Err M3) Q (λ _. fine job refl) (λ _. refused M3 tt)
+-- the query names this job, of a pipeline of the project that has its token
+pub record IsAsked (project : Option Project) (found : Option Job) (pipeline : Option Pipeline) (query : JobQuery) (job : Job) : Type 0 where
+  pub owner : Project
+  pub its : Pipeline
+  pub is_owner : project ≡ Some owner
+  pub is_found : found ≡ Some job
+  pub is_pipeline : pipeline ≡ Some its
+  pub named : (owner.id == query.project) ≡ true
+  pub within : (its.project == owner.id) ≡ true
 
-pub asked : (Q : Result Job Code → Type 0) (job : Option Job) → ((j : Job) → job ≡ Some j → Q (Ok j)) → ((c : Code) → IsMachineCode c → Q (Err c)) → (project : Option Project) (pipeline : Option Pipeline) (query : JobQuery)
-    → Q (asked_job project job pipeline query)
-asked Q job fine refused None pipeline query = refused M1 tt
-asked Q job fine refused (Some project) pipeline query =
-    cond_both (project.id == query.project) (job_within job pipeline project.id) (Err M2) Q (λ _. within Q job fine refused pipeline project.id) (λ _. refused M2 tt)
+-- a query names a job, or is refused
+within : (Q : Result Job Code → Type 0) (job : Option Job) (pipeline : Option Pipeline) (project : ℕ)
+    → ((j : Job) (p : Pipeline) → job ≡ Some j → pipeline ≡ Some p → (p.project == project) ≡ true → Q (Ok j)) → ((c : Code) → IsMachineCode c → Q (Err c)) → Q (job_within job pipeline project)
+within Q None pipeline project fine refused = refused M3 tt
+within Q (Some job) None project fine refused = refused M3 tt
+within Q (Some job) (Some pipeline) project fine refused = cond_both (pipeline.project == project) (Ok job) (Err M3) Q (fine job pipeline refl refl) (λ _. refused M3 tt)
+
+pub asked : (Q : Result Job Code → Type 0) (project : Option Project) (found : Option Job) (pipeline : Option Pipeline) (query : JobQuery)
+    → ((j : Job) → IsAsked project found pipeline query j → Q (Ok j)) → ((c : Code) → IsMachineCode c → Q (Err c)) → Q (asked_job project found pipeline query)
+asked Q None found pipeline query fine refused = refused M1 tt
+asked Q (Some owner) found pipeline query fine refused =
+    cond_both (owner.id == query.project) (job_within found pipeline owner.id) (Err M2) Q
+    (λ named. within Q found pipeline owner.id (λ j p is is_its inside. fine j (record { owner = owner; its = p; is_owner = refl; is_found = is; is_pipeline = is_its; named = named; within = inside })) refused)
+    (λ _. refused M2 tt)
 
 job_at_has : (s : State) (n : ℕ) (j : Job) → job_at s n ≡ Some j → Has j s.jobs
 job_at_has s n j e = (has_find (λ (w : Job). w.id == n) j s.jobs e).0
 
 found_by : (s : State) (query : JobQuery) (project : Option Project) → Found s (asked_job project (job_at s query.job) (pipeline_of s (job_at s query.job)) query)
-found_by s query project = asked (Found s) (job_at s query.job) (job_at_has s query.job) (λ c m. m) project (pipeline_of s (job_at s query.job)) query
+found_by s query project = asked (Found s) project (job_at s query.job) (pipeline_of s (job_at s query.job)) query (λ j w. job_at_has s query.job j w.is_found) (λ c m. m)
 
 module _ (s : State) (board : List BoardRow) (P : Plan → Type 0) (of_code : (c : Code) → IsMachineCode c → P (refused c))
     (of_act : (text : List ℕ) (changes : List RowChange) → IsAct s changes → P (fine (Json text), changes)) where
@@ -224,7 +237,7 @@ pipeline_in None project = tt
 pipeline_in (Some p) project = cond_both (p.project == project) (Ok p) (Err M3) IsPipeline (λ _. tt) (λ _. tt)
 
 job_in : (s : State) (n project : ℕ) → Found s (job_within (job_at s n) (pipeline_of s (job_at s n)) project)
-job_in s n project = within (Found s) (job_at s n) (job_at_has s n) (λ c m. m) (pipeline_of s (job_at s n)) project
+job_in s n project = within (Found s) (job_at s n) (pipeline_of s (job_at s n)) project (λ j p is _ _. job_at_has s n j is) (λ c m. m)
 
 is_told : (s : State) (board : List BoardRow) (named : ℕ) (r : Result Project Code) → Asked s named r → (what : Subject) → IsTold (read_of s board r what)
 is_told s board named (Err code) asked what = asked

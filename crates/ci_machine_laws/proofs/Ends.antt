@@ -54,12 +54,13 @@ puts h s t p x b i known e live =
 
 -- ---- what is accepted of a runner is of a live attempt
 
-pub while_live : {A : Type 0} (state : AttemptState) (over : Bool) (x y : A) → while_leased state over x ≡ Ok y → is_live_state state ≡ true
-while_live Live over x y e = refl
-while_live state over x y e = absurd (cc)
+pub while_ok : {A : Type 0} (state : AttemptState) (over : Bool) (x y : A) → while_leased state over x ≡ Ok y → (is_live_state state ≡ true) × (y ≡ x)
+while_ok Live true x y e = absurd (cc)
+while_ok Live false x y e = (refl, cc)
+while_ok state over x y e = absurd (cc)
 
 pub renewed_live : (a : Attempt) (limit now z : ℕ) → renewed a limit now ≡ Ok z → is_live a ≡ true
-renewed_live a limit now z e = while_live a.state _ _ z e
+renewed_live a limit now z e = (while_ok a.state _ _ z e).0
 
 pub leased_live : (a : Attempt) (limit now : ℕ) (renewal : Result ℕ LeaseFault) → renewed a limit now ≡ renewal → (r : Result ℕ PieceFault) (z : ℕ) → if_leased renewal r ≡ Ok z → is_live a ≡ true
 leased_live a limit now (Ok seen) e r z f = renewed_live a limit now seen e

@@ -3,7 +3,6 @@ pub mod EachPlan
 pub mod EachNext
 pub mod Counts
 pub mod Grants
-pub mod Pending
 pub mod Computed
 pub mod Traces
 pub mod Pieces

@@ -5,6 +5,7 @@ use Rattle.ci_machine_laws.proofs.Prelude.{eqb-true, eq-eqb, bytes_eq, slice_cmp
 use Rattle.ci_machine_laws.proofs.Prelude.{has_filter, same, equal, find_implied, ordering_then, is_eq-slice_cmp}
 use Rattle.ci_machine_steps.specs.Prelude.{BoardRow, Project, GroupMode, GroupOrder, NewMode, SetMode, Event, Seed, Answer, Code, State, placed, mode_cmp, applied, is_mode_of}
 use Rattle.ci_machine_steps.specs.Prelude.{Plan, mode_change, set_mode, Step, IsReached, IsRefusal}
+use Rattle.ci_machine_laws.proofs.Sweeps.{found_none}
 use Rattle.ci_machine_laws.specs.Modes.{SetsMode}
 use Rattle.ci_machine_laws.proofs.EachPlan.{Asked, of_asked, is_asked}
 use Rattle.ci_machine_laws.proofs.EachNext.{EachNext, IsAside, modes_are, next_is}
@@ -43,10 +44,6 @@ found_past p cmp x (y ∷ ys) isnt =
     cond_both (is_lt (cmp y x)) (y ∷ placed cmp x ys) (x ∷ y ∷ ys) (λ l. find p l ≡ find p (y ∷ ys))
     (λ _. ap (λ o. cond (p y) (Some y) o) (found_past p cmp x ys isnt))
     (λ _. cond-false (p x) (Some x) (find p (y ∷ ys)) isnt)
-
-found_none : {A : Type 0} (p : A → Bool) (xs : List A) → ((y : A) → Has y xs → p y ≡ false) → find p xs ≡ None
-found_none p [] none = refl
-found_none p (y ∷ ys) none = cond-false (p y) (Some y) (find p ys) (none y (inl refl)) ∙ found_none p ys (λ z k. none z (inr k))
 
 -- ---- the modes of a state
 

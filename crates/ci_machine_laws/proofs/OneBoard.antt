@@ -212,21 +212,25 @@ module _ (g : JobGraph) (pairs : List (ℕ × ℕ)) (within : AreWithin (length 
       is j l
       ∙ ap (λ (ps : List ℕ). status_of_effects (part_at g j) (facts_at facts j) (map (λ p. effect (part_at g p) (facts_at facts p) (part_at g j).gives_needs (a p)) ps)) (same_predecessors j l)
 
+  below : (j x : ℕ) → j < length g.parts → 0 < times x (predecessors_of g j) → x < length g.parts
+  below j x l m = (within_of n pairs within x j (pred_of_pair pairs x j (predecessors_of g j) (exact j l) m)).0
+
+  -- alike statuses of its jobs have alike effects, and come out in alike rows
+  effects_alike : (facts : List Facts) (a b : ℕ → Status) → ((j : ℕ) → j < length g.parts → a j ≡ b j) → (j : ℕ) → j < length g.parts → effects_of g facts a j ≡ effects_of g facts b j
+  effects_alike facts a b alike j l =
+      map_members _ _ (predecessors_of g j) (λ x m. ap (λ (s : Status). effect (part_at g x) (facts_at facts x) (part_at g j).gives_needs s) (alike x (below j x l m)))
+
+  row_alike : (facts : List Facts) (a b : ℕ → Status) → ((j : ℕ) → j < length g.parts → a j ≡ b j) → (j : ℕ) → j < length g.parts → row_of g facts a j ≡ row_of g facts b j
+  row_alike facts a b alike j l =
+      let effects = effects_alike facts a b alike j l in
+      λ t. record { status = alike j l t; opens = count_by is_open (effects t); failed = count_by is_fail (effects t); barred = count_by is_bar (effects t) }
+
   module _ (law : OneAssignment) (facts : List Facts) (long : length facts ≡ length g.parts) (a b : ℕ → Status) (first : IsAssignment g facts a) (second : IsAssignment g facts b) where
     same_status : (j : ℕ) → j < length g.parts → a j ≡ b j
     same_status j l = (law whole is_whole facts long).1 a b (of_whole facts a first) (of_whole facts b second) j l
 
     same_row : (j : ℕ) → j < length g.parts → row_of g facts a j ≡ row_of g facts b j
-    same_row j l =
-        let status : a j ≡ b j = same_status j l in
-        let below : (x : ℕ) → 0 < times x (predecessors_of g j) → x < length g.parts
-        = λ x m. (within_of n pairs within x j (pred_of_pair pairs x j (predecessors_of g j) (exact j l) m)).0 in
-        let effects : effects_of g facts a j ≡ effects_of g facts b j
-        = map_members _ _ (predecessors_of g j) (λ x m. ap (λ (s : Status). effect (part_at g x) (facts_at facts x) (part_at g j).gives_needs s) (same_status x (below x m))) in
-        λ t. record { status = status t; opens = count_by is_open (effects t); failed = count_by is_fail (effects t); barred = count_by is_bar (effects t) }
-
-  below : (j x : ℕ) → j < length g.parts → 0 < times x (predecessors_of g j) → x < length g.parts
-  below j x l m = (within_of n pairs within x j (pred_of_pair pairs x j (predecessors_of g j) (exact j l) m)).0
+    same_row j l = row_alike facts a b same_status j l
 
   -- with any facts it has rows
   some_rows : OneAssignment → (facts : List Facts) → length facts ≡ length g.parts → (rows : List Row) × AreRows g facts rows
@@ -245,12 +249,10 @@ module _ (g : JobGraph) (pairs : List (ℕ × ℕ)) (within : AreWithin (length 
   -- rows are judged by those of its jobs alone
   rows_alike : (facts : List Facts) (xs ys : List Row) → ((j : ℕ) → j < length g.parts → row_at ys j ≡ row_at xs j) → AreRows g facts xs → AreRows g facts ys
   rows_alike facts xs ys alike are =
-      let status : (j : ℕ) → j < length g.parts → statuses ys j ≡ statuses xs j = λ j l. ap (λ (r : Row). r.status) (alike j l) in
-      let effects : (j : ℕ) → j < length g.parts → effects_of g facts (statuses xs) j ≡ effects_of g facts (statuses ys) j
-      = λ j l. map_members _ _ (predecessors_of g j) (λ x m. ap (λ (s : Status). effect (part_at g x) (facts_at facts x) (part_at g j).gives_needs s) (sym (status x (below j x l m)))) in
+      let status : (j : ℕ) → j < length g.parts → statuses xs j ≡ statuses ys j = λ j l. sym (ap (λ (r : Row). r.status) (alike j l)) in
       record {
-        is = λ j l. status j l ∙ (are.is j l ∙ ap (status_of_effects (part_at g j) (facts_at facts j)) (effects j l));
-        each = λ j l. alike j l ∙ (are.each j l ∙ (λ t. record { status = sym (status j l) t; opens = count_by is_open (effects j l t); failed = count_by is_fail (effects j l t); barred = count_by is_bar (effects j l t) }));
+        is = λ j l. sym (status j l) ∙ (are.is j l ∙ ap (status_of_effects (part_at g j) (facts_at facts j)) (effects_alike facts (statuses xs) (statuses ys) status j l));
+        each = λ j l. alike j l ∙ (are.each j l ∙ row_alike facts (statuses xs) (statuses ys) status j l);
       }
 
 -- ---- two boards

@@ -1,8 +1,8 @@
 -- An event has one outcome, but that a pattern of the CI file that it reads may be refused: each plan, and then each step.
 use Rattle.ci_machine_laws.proofs.Prelude.{◌≡◌, ◌⊎◌, ℕ, Bool, true, false, not, nat_lt, ◌==◌, List, [], ◌∷◌, length, Option, Some, None, option_and_then, Result, Ok, Err, refl}
 use Rattle.ci_machine_laws.proofs.Prelude.{sym, ap, subst, ◌∙◌, inl, inr, ⊎_elim, cond_both, Given, MAX_VARIABLES}
-use Rattle.ci_machine_steps.specs.Prelude.{BoardRow, Job, Pipeline, RowChange, Event, Request, SetFile, CreatePipeline, Play, CancelJob, CancelPipeline, RetryJob, Seed, Answer}
-use Rattle.ci_machine_steps.specs.Prelude.{Code, M2, M10, M11, M12, Swept, State, applied, jobs_of, attempts_of, facts_of, rows_of, status_for, AreBoard, claims_in, queued, Plan}
+use Rattle.ci_machine_steps.specs.Prelude.{AreBoard, BoardRow, Job, Pipeline, RowChange, Event, Request, SetFile, CreatePipeline, Play, CancelJob, CancelPipeline, RetryJob, Seed}
+use Rattle.ci_machine_steps.specs.Prelude.{Answer, Code, M2, M10, M11, M12, Swept, State, applied, jobs_of, attempts_of, facts_of, rows_of, status_for, claims_in, queued, Plan}
 use Rattle.ci_machine_steps.specs.Prelude.{faulted, asked_project, set_file, SetsFile, have_names, file_or_none, file_for, may_create, given_by, Layout, lacks_numbers, creation}
 use Rattle.ci_machine_steps.specs.Prelude.{creation_changes, pipeline_created, MakesUnless, Makes, Creates, is_name, Project, NewPipeline, Detail, K, permitted, ActsOn}
 use Rattle.ci_machine_steps.specs.Prelude.{is_cancellable, cancellable_jobs, cancel, CancelsSome, CancelsPipeline, is_playable, play, is_retryable, retry, job_shown}
@@ -43,23 +43,25 @@ file_asked o named new text (Ok project) is e = ap (option_and_then (λ (p : Pro
 -- ---- one plan
 
 module _ (known : Readings) (s : State) (f g : Plan) (once : BoardOnce (applied f.1 s)) where
-  once_by : (changes : List RowChange) → f.1 ≡ changes → BoardOnce (applied changes s)
-  once_by changes is = subst (λ (cs : List RowChange). BoardOnce (applied cs s)) is once
+  -- what makes these changes, and shows the state after them by its board, is one plan
+  shown_once : (changes : List RowChange) (shown : List BoardRow → Plan) → ((after : List BoardRow) → (shown after).1 ≡ changes) → let Shows = λ (h : Plan). (after : List BoardRow) × AreBoard (applied changes s) after × (h ≡ shown after) in
+      Shows f → Shows g → f ≡ g
+  shown_once changes shown makes p q =
+      let boards : p.0 ≡ q.0 = subst (λ (cs : List RowChange). BoardOnce (applied cs s)) (ap (λ (h : Plan). h.1) p.2 ∙ makes p.0) once p.0 q.0 p.1 q.1 in
+      p.2 ∙ (ap shown boards ∙ sym q.2)
 
   acts_once : (act : Job → List RowChange) (asked : Result Job Code) → ActsOn s act asked f → ActsOn s act asked g → f ≡ g
   acts_once act (Err code) p q = p ∙ sym q
   acts_once act (Ok job) p q =
       let t = applied (act job) s in
-      let boards : p.0 ≡ q.0 = once_by (act job) (ap (λ (h : Plan). h.1) p.2) p.0 q.0 p.1 q.1 in
-      p.2 ∙ (ap (λ (after : List BoardRow). ((job_shown (claims_in t after job.pipeline) (queued t job).project job (status_for after job.id)).0, act job)) boards ∙ sym q.2)
+      shown_once (act job) (λ after. ((job_shown (claims_in t after job.pipeline) (queued t job).project job (status_for after job.id)).0, act job)) (λ _. refl) p q
 
   some_once : (p : Pipeline) (jobs : List Job) → CancelsSome s p jobs f → CancelsSome s p jobs g → f ≡ g
   some_once p [] a b = a ∙ sym b
   some_once p (j ∷ js) a b =
       let changes = cancel s.attempts (j ∷ js) in
       let t = applied changes s in
-      let boards : a.0 ≡ b.0 = once_by changes (ap (λ (h : Plan). h.1) a.2) a.0 b.0 a.1 b.1 in
-      a.2 ∙ (ap (λ (after : List BoardRow). ((pipeline_shown p (claims_in t after p.id) (jobs_of t p.id) (facts_of t p.id) (rows_of t after p.id)).0, changes)) boards ∙ sym b.2)
+      shown_once changes (λ after. ((pipeline_shown p (claims_in t after p.id) (jobs_of t p.id) (facts_of t p.id) (rows_of t after p.id)).0, changes)) (λ _. refl) a b
 
   cancels_once : (board : List BoardRow) (asked : Result Pipeline Code) → CancelsPipeline s board asked f → CancelsPipeline s board asked g → f ≡ g
   cancels_once board (Err code) a b = a ∙ sym b
@@ -86,9 +88,7 @@ module _ (known : Readings) (s : State) (f g : Plan) (once : BoardOnce (applied 
     unless_once laid false p q =
         let made = creation s.next.pipeline s.next.job new given now laid in
         let changes = creation_changes s.next.job made in
-        let t = applied changes s in
-        let boards : p.0 ≡ q.0 = once_by changes (ap (λ (h : Plan). h.1) p.2) p.0 q.0 p.1 q.1 in
-        p.2 ∙ (ap (λ (after : List BoardRow). pipeline_created s.next.job made (claims_in t after s.next.pipeline) (rows_of t after s.next.pipeline)) boards ∙ sym q.2)
+        shown_once changes (λ after. pipeline_created s.next.job made (claims_in (applied changes s) after s.next.pipeline) (rows_of (applied changes s) after s.next.pipeline)) (λ _. refl) p q
 
     makes_once : (laid : Result Layout Detail) → MakesBy laid f → MakesBy laid g → f ≡ g
     makes_once (Err fault) p q = p ∙ sym q

@@ -12,7 +12,7 @@ pub use Rattle.std.proofs.lemmas.Bool.{and_parts, cond_both, cond-true, cond-fal
 pub use Rattle.std.proofs.lemmas.Bool.{not-false, or_cases, and_from, and_cases, or_left, or_right, cases_lt, le-ltb, and_left}
 pub use Rattle.std.proofs.lemmas.Cmp.{nat_cmp_total, on_total, then_total, nat_list_cmp_total}
 pub use Rattle.std.proofs.lemmas.List.{length-map, length-append, get_or-map, append-nil}
-pub use Rattle.std.proofs.lemmas.List.Elements.{filter-append, Contains-append_right}
+pub use Rattle.std.proofs.lemmas.List.Elements.{filter-append, Contains-append_right, All-cons}
 pub use Rattle.std.proofs.lemmas.Map.Text.{is_eq-slice_cmp}
 pub use Rattle.std.proofs.lemmas.Slice.Eq.{bytes_eq-Decides}
 pub use Rattle.ci_board.specs.Prelude.{row_at}

@@ -2,12 +2,13 @@
 use Rattle.ci_machine_laws.proofs.Prelude.{rules, ◌≡◌, ◌⊎◌, ℕ, ◌<◌, ◌≤◌, Bool, true, false, ◌==◌, ◌&&◌, List, [], ◌∷◌, if◌then◌else◌, Some, refl, sym, ap, subst, ◌∙◌, inl, inr}
 use Rattle.ci_machine_laws.proofs.Prelude.{⊎_elim, arith, bytes_eq, both_ways, cases_Bool, bytes_eq-Decides, Has, Rising, rising_put, has_put, rising_filter, has_filter}
 use Rattle.ci_machine_laws.proofs.Prelude.{filter_has, has_find, least_find, find-map, one_at, All-from_has, contains_from_has, put_all, attempt_was, attempt_left, trace_left}
+use Rattle.ci_machine_laws.proofs.Prelude.{false≢true}
 use Rattle.ci_machine_steps.specs.Prelude.{is_grant, BoardRow, Runner, Job, JobVariable, QueuedJob, Attempt, TracePart, Event, AskJob, AppendTrace, Seed, Answer, State, applied}
 use Rattle.ci_machine_steps.specs.Prelude.{put, job_cmp, attempt_cmp, jobs_of, AreBoard, is_live, is_eligible, chosen, groups_in, creation, pipeline_created, granted, grown}
 use Rattle.ci_machine_steps.specs.Prelude.{is_job_among, pruned_reply, without_pipeline, runner_with, last_attempt, is_pending, pending_jobs, queued, queue, Past, Leads, grants}
-use Rattle.ci_machine_steps.specs.Prelude.{accepted_bytes}
+use Rattle.ci_machine_steps.specs.Prelude.{accepted_bytes, Status, is_status}
+use Rattle.ci_machine_steps.proofs.Running.{live_runs}
 use Rattle.ci_machine_laws.proofs.Grants.{Grants, live_last}
-use Rattle.ci_machine_laws.proofs.Pending.{pending_free}
 use Rattle.ci_machine_laws.proofs.PutAll.{rising_all, has_still}
 use Rattle.ci_machine_laws.proofs.EachPlan.{given_in}
 use Rattle.ci_machine_laws.proofs.EachNext.{EachNext, next_is}
@@ -43,7 +44,8 @@ in_place s a x has same_id b k = ⊎_elim (λ q. inl (a, (has, sym (ap (λ (c : 
 pending_none : (h : List Past) (s : State) (board : List BoardRow) → AreBoard s board → Inv h s → (job : Job) → Has job s.jobs → is_pending board job ≡ true
     → (a : Attempt) → Has a s.attempts → is_live a ≡ true → a.job ≡ job.id → ⊥
 pending_none h s board are i job has pending a k live its =
-    pending_free s board are job has pending a (subst (λ n. last_attempt s n ≡ Some a) its (live_last h s i.grants a k live)) live
+    let last = subst (λ n. last_attempt s n ≡ Some a) its (live_last h s i.grants a k live) in
+    false≢true (sym (ap (λ (w : Status). is_status w Status.Pending) (live_runs s board are job has a last live)) ∙ pending)
 
 -- a grant
 starts : (h : List Past) (s : State) (board : List BoardRow) (token : List ℕ) (now : ℕ) (seed : Seed) → AreBoard s board → Inv h s → (runner : Runner) (q : QueuedJob) (vs : List JobVariable) (at : ℕ) (given : Seed)

@@ -87,48 +87,30 @@ abbrev laid_by : Config → Result layout.Plan GraphCode → Result Layout Detai
 laid_by c (Ok p) = Ok (record { config = c; plan = p })
 laid_by c (Err code) = Err (graph_fault code)
 
--- what a file lays out: its fault, or by what it configures a plan or the graph's fault
-data LaysOut (text : List ℕ) (g : Given) (r : Result Layout Detail) : Type 0 where
-  of_read : (said : Result Config Detail) (fault : Detail) → IsRead text said → said ≡ Err fault → r ≡ Err fault → LaysOut text g r
-  of_plan : (said : Result Config Detail) (c : Config) (plan : Result layout.Plan GraphCode) → IsRead text said → said ≡ Ok c → Plans g c plan → r ≡ laid_by c plan → LaysOut text g r
+-- what a file lays out by what is read of it: its fault, or a plan or the graph's fault
+abbrev By : Given → Result Config Detail → Result Layout Detail → Type 0
+By g (Err fault) r = r ≡ Err fault
+By g (Ok c) r = (plan : Result layout.Plan GraphCode) × Plans g c plan × (r ≡ laid_by c plan)
+
+record LaysOut (text : List ℕ) (g : Given) (r : Result Layout Detail) : Type 0 where
+  said : Result Config Detail
+  is : IsRead text said
+  by : By g said r
 
 lays_out : (text : List ℕ) (g : Given) (r : Result Layout Detail) → IsLaidOut text g r → LaysOut text g r
-lays_out text g _ (misread fault is) = of_read (Err fault) fault is refl refl
-lays_out text g _ (unplanned c code is plans) = of_plan (Ok c) c (Err code) is refl plans refl
-lays_out text g _ (pipelines.planned c p is plans) = of_plan (Ok c) c (Ok p) is refl plans refl
+lays_out text g _ (misread fault is) = record { said = Err fault; is = is; by = refl }
+lays_out text g _ (unplanned c code is plans) = record { said = Ok c; is = is; by = (Err code, plans, refl) }
+lays_out text g _ (pipelines.planned c p is plans) = record { said = Ok c; is = is; by = (Ok p, plans, refl) }
 
-module _ (known : Readings) (text : List ℕ) (g : Given) where
-  -- a fault that is read and is that of a pattern
-  of_fault_read : (said : Result Config Detail) (fault : Detail) (r : Result Layout Detail) → said ≡ Err fault → r ≡ Err fault → said ≡ Err pattern_refused → r ≡ Err pattern_refused
-  of_fault_read said fault r was e a = let x : fault ≡ pattern_refused = cc in e ∙ ap (λ (d : Detail). Err d) x
+by_once : (g : Given) (said : Result Config Detail) (r q : Result Layout Detail) → By g said r → By g said q → r ≡ q
+by_once g (Err fault) r q a b = a ∙ sym b
+by_once g (Ok c) r q a b = a.2 ∙ (ap (laid_by c) (plans_once g c a.0 b.0 a.1 b.1) ∙ sym b.2)
 
-  not_fault : (said : Result Config Detail) (c : Config) → said ≡ Ok c → said ≡ Err pattern_refused → ⊥
-  not_fault said c was a = cc
-
-  lays_once : (r q : Result Layout Detail) → LaysOut text g r → LaysOut text g q → Agree text r q
-  lays_once r q (of_read said fault is was e) (of_read other wrong also were f) =
-      ⊎_elim
-      (λ (same : said ≡ other). let w : fault ≡ wrong = cc in inl (e ∙ (ap (λ (d : Detail). Err d) w ∙ sym f)))
-      (λ (w : PatternIn text said other). inr (w.0, ⊎_elim (λ a. inl (of_fault_read said fault r was e a)) (λ b. inr (of_fault_read other wrong q were f b)) w.1))
-      (read_once known text said other is also)
-  lays_once r q (of_read said fault is was e) (of_plan other c plan also were plans f) =
-      ⊎_elim
-      (λ (same : said ≡ other). absurd (cc))
-      (λ (w : PatternIn text said other). inr (w.0, ⊎_elim (λ a. inl (of_fault_read said fault r was e a)) (λ b. absurd (not_fault other c were b)) w.1))
-      (read_once known text said other is also)
-  lays_once r q (of_plan said c plan is was plans e) (of_read other fault also were f) =
-      ⊎_elim
-      (λ (same : said ≡ other). absurd (cc))
-      (λ (w : PatternIn text said other). inr (w.0, ⊎_elim (λ a. absurd (not_fault said c was a)) (λ b. inr (of_fault_read other fault q were f b)) w.1))
-      (read_once known text said other is also)
-  lays_once r q (of_plan said c plan is was plans e) (of_plan other d alike also were others f) =
-      ⊎_elim
-      (λ (same : said ≡ other).
-      let w : c ≡ d = cc in
-      let one = plans_once g c plan alike plans (subst (λ (x : Config). Plans g x alike) (sym w) others) in
-      inl (e ∙ ((λ i. laid_by (w i) (one i)) ∙ sym f)))
-      (λ (w : PatternIn text said other). absurd (⊎_elim (λ a. not_fault said c was a) (λ b. not_fault other d were b) w.1))
-      (read_once known text said other is also)
-
-  pub laid_once : (r q : Result Layout Detail) → IsLaidOut text g r → IsLaidOut text g q → Agree text r q
-  laid_once r q first second = lays_once r q (lays_out text g r first) (lays_out text g q second)
+pub laid_once : Readings → (text : List ℕ) (g : Given) (r q : Result Layout Detail) → IsLaidOut text g r → IsLaidOut text g q → Agree text r q
+laid_once known text g r q first second =
+    let a = lays_out text g r first in
+    let b = lays_out text g q second in
+    ⊎_elim
+    (λ same. inl (by_once g b.said r q (subst (λ (w : Result Config Detail). By g w r) same a.by) b.by))
+    (λ w. inr (w.0, ⊎_elim (λ e. inl (subst (λ (v : Result Config Detail). By g v r) e a.by)) (λ e. inr (subst (λ (v : Result Config Detail). By g v q) e b.by)) w.1))
+    (read_once known text a.said b.said a.is b.is)

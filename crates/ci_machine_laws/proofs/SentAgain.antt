@@ -9,9 +9,10 @@ use Rattle.ci_machine_steps.specs.Prelude.{put, others, attempt_cmp, trace_cmp, 
 use Rattle.ci_machine_steps.specs.Prelude.{finished, status_of_state, refusal, Plan, refused, heard, ended, reported, update_job, grown, appended, append_trace, Happens, Step}
 use Rattle.ci_machine_steps.specs.Prelude.{attempt_at, lease_of, lease_at, trace_of, Past, Leads, IsReached}
 use Rattle.ci_machine_steps.specs.Reports.{told}
+use Rattle.ci_machine_laws.proofs.Sweeps.{found_none}
 use Rattle.ci_machine_laws.specs.Repeats.{is_of_runner, is_final, WasJustSent, TwiceIsOnce, IsTakenEnd, IsAnsweredAgain, while_there, once_pruned, EndsOnce, OfEachLine}
 use Rattle.ci_machine_laws.specs.Repeats.{RepeatsChangeNothing}
-use Rattle.ci_machine_laws.proofs.Ends.{HasGone, while_live}
+use Rattle.ci_machine_laws.proofs.Ends.{HasGone, while_ok}
 use Rattle.ci_machine_laws.proofs.Linked.{has_self}
 use Rattle.ci_machine_laws.proofs.Reached.{reached}
 use Rattle.ci_machine_laws.proofs.Pieces.{Fits, accepted_fits}
@@ -57,11 +58,6 @@ rests f s plan is none =
 
 -- ---- what is accepted
 
-while_ok : {A : Type 0} (state : AttemptState) (over : Bool) (x y : A) → while_leased state over x ≡ Ok y → y ≡ x
-while_ok Live true x y e = absurd (cc)
-while_ok Live false x y e = cc
-while_ok state over x y e = absurd (cc)
-
 same_exit_self : (exit : Option ℕ) → same_exit exit exit ≡ true
 same_exit_self None = refl
 same_exit_self (Some x) = eq-eqb x x refl
@@ -93,7 +89,7 @@ module _ (s : State) (rise : Rising (λ (a : Attempt). a.id) 0 s.attempts) where
     stands : (x : Attempt) (limit seen : ℕ) (r : Result ℕ LeaseFault) → x.seen ≡ max seen now → renewed x limit now ≡ r → applied (heard x r).1 (with_attempt x) ≡ with_attempt x
     stands x limit seen (Err fault) was is = refl
     stands x limit seen (Ok z) was is =
-        let later : z ≡ max x.seen now = while_ok x.state (is_over x limit now) (max x.seen now) z is in
+        let later : z ≡ max x.seen now = (while_ok x.state (is_over x limit now) (max x.seen now) z is).1 in
         let same : z ≡ x.seen = later ∙ (ap (λ n. max n now) was ∙ (max_again seen now ∙ sym was)) in
         put_same x (record x { seen = z }) refl (λ i. record x { seen = same i })
 
@@ -109,7 +105,7 @@ module _ (s : State) (rise : Rising (λ (a : Attempt). a.id) 0 s.attempts) where
         let then : runs t ≡ heard x (renewed x limit now)
         = ap (λ o. update_job (option_map (lease_of t) o) (record u { report = Report.Running }) now) (found_put u.attempt x s.attempts rise its)
         ∙ cond-true (bytes_eq x.token u.token) (heard x (renewed x limit now)) (refused M5) token in
-        ap (λ (p : Plan). applied p.1 t) then ∙ stands x limit a.seen (renewed x limit now) (while_ok a.state (is_over a limit now) (max a.seen now) z is) refl
+        ap (λ (p : Plan). applied p.1 t) then ∙ stands x limit a.seen (renewed x limit now) (while_ok a.state (is_over a limit now) (max a.seen now) z is).1 refl
 
     runs_twice : (o : Option Attempt) → attempt_at s u.attempt ≡ o → Twice runs s (update_job (option_map (lease_of s) o) (record u { report = Report.Running }) now)
     runs_twice None found = rests runs s (refused M5) (ap (λ o. update_job (option_map (lease_of s) o) (record u { report = Report.Running }) now) found) refl
@@ -158,7 +154,7 @@ finishes : (a : Attempt) (limit now : ℕ) (final state : AttemptState) → fini
 finishes a limit now final state =
     cond_both (is_same_end a.state final) (Ok a.state) (while_leased a.state (is_over a limit now) final) (λ r. r ≡ Ok state → Finishes a final state)
     (λ e k. let is : a.state ≡ state = cc in inl (sym is, e))
-    (λ _ k. inr (while_ok a.state (is_over a limit now) final state k, while_live a.state (is_over a limit now) final state k))
+    (λ _ k. let w = while_ok a.state (is_over a limit now) final state k in inr (w.1, w.0))
 
 abbrev is_fine : HttpStatus → Bool
 is_fine Fine = true
@@ -386,11 +382,6 @@ says_so s t u now seed (Answer.Reply reply) step r is =
     (step.state ∙ ap (λ (p : Plan). applied p.1 s) plan, ap (λ (p : Plan). Answer.Reply p.0) plan)
 says_so s t u now seed (Answer.Swept swept) step r is = absurd step.happens
 
-none_found : (n : ℕ) (xs : List Attempt) → ((b : Attempt) → Has b xs → b.id ≡ n → ⊥) → find (λ b. b.id == n) xs ≡ None
-none_found n [] none = refl
-none_found n (x ∷ xs) none =
-    cond-false (x.id == n) (Some x) (find (λ (b : Attempt). b.id == n) xs) (ne_eqb x.id n (none x (inl refl))) ∙ none_found n xs (λ b k. none b (inr k))
-
 ends_again : (h : List Past) (p : Past) (s : State) → Leads h p.before → Step p.before p.event p.now p.seed p.answer s → (first : Past) → Has first h → (end : IsTakenEnd first) → p.event ≡ first.event
     → (s ≡ p.before) × IsAnsweredAgain h first p end.update.attempt
 ends_again h p s l step first k end same =
@@ -403,7 +394,7 @@ ends_again h p s l step first k end same =
     (said.0, while_there (contains_named (λ (a : Attempt). a.id) u.attempt r.attempts (i.attempt, (i.has, i.number))) (said.1 ∙ sym end.answered)))
     (λ w.
     let missing : (b : Attempt) → Has b r.attempts → b.id ≡ u.attempt → ⊥ = λ b m e. w.2.1.1 b m (e ∙ sym w.1) in
-    let said = says_so r s u p.now p.seed p.answer its (refusal M5) (ap (λ o. update_job (option_map (lease_of r) o) u p.now) (none_found u.attempt r.attempts missing)) in
+    let said = says_so r s u p.now p.seed p.answer its (refusal M5) (ap (λ o. update_job (option_map (lease_of r) o) u p.now) (found_none (λ (b : Attempt). b.id == u.attempt) r.attempts (λ b m. ne_eqb b.id u.attempt (missing b m)))) in
     (said.0, once_pruned w.0 w.1 w.2.0 (λ c. let n = named_contains (λ (a : Attempt). a.id) u.attempt r.attempts c in missing n.0 n.1.0 n.1.1) said.1))
     (stands_still h r l first k end)
 

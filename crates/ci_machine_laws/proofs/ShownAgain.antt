@@ -13,7 +13,7 @@ use Rattle.ci_machine_steps.specs.Prelude.{pipeline_or_none, project_or_none, jo
 use Rattle.ci_machine_laws.specs.ShownAgain.{ActsOnJob, asks_for}
 use Rattle.ci_machine_laws.proofs.Acts.{IsAct, plays, retries, cancels, cancellable_within, after_act}
 use Rattle.ci_machine_laws.proofs.PutAll.{all_at, all_at_id, all_in_place, rising_all}
-use Rattle.ci_machine_laws.proofs.EachPlan.{Asked, of_asked, is_asked, given_in}
+use Rattle.ci_machine_laws.proofs.EachPlan.{Asked, of_asked, is_asked, given_in, IsAsked, asked}
 use Rattle.ci_machine_laws.proofs.Linked.{Linked, has_self}
 use Rattle.ci_machine_laws.proofs.NewPipelines.{its_jobs, its_facts, made_state}
 use Rattle.ci_machine_laws.proofs.OneBoard.{OneAssignment, one_board}
@@ -35,25 +35,10 @@ shown_alike claims project its j k same = sym (good_shown claims project its j) 
 
 -- ---- what is asked for
 
-record IsAsked (project : Option Project) (found : Option Job) (pipeline : Option Pipeline) (query : JobQuery) (job : Job) : Type 0 where
-  pub owner : Project
-  pub its : Pipeline
-  pub is_owner : project ≡ Some owner
-  pub is_found : found ≡ Some job
-  pub is_pipeline : pipeline ≡ Some its
-  pub named : (owner.id == query.project) ≡ true
-  pub within : (its.project == owner.id) ≡ true
-
 asked_parts : (project : Option Project) (found : Option Job) (pipeline : Option Pipeline) (query : JobQuery) (job : Job) → asked_job project found pipeline query ≡ Ok job → IsAsked project found pipeline query job
-asked_parts None found pipeline query job e = absurd (cc)
-asked_parts (Some p) None pipeline query job e = cond_both (p.id == query.project) (Err M3) (Err M2) (λ (r : Result Job Code). r ≡ Ok job → IsAsked (Some p) None pipeline query job) (λ _ f. absurd (cc)) (λ _ f. absurd (cc)) e
-asked_parts (Some p) (Some j) None query job e = cond_both (p.id == query.project) (Err M3) (Err M2) (λ (r : Result Job Code). r ≡ Ok job → IsAsked (Some p) (Some j) None query job) (λ _ f. absurd (cc)) (λ _ f. absurd (cc)) e
-asked_parts (Some p) (Some j) (Some q) query job e =
-    cond_both (p.id == query.project) (job_within (Some j) (Some q) p.id) (Err M2) (λ (r : Result Job Code). r ≡ Ok job → IsAsked (Some p) (Some j) (Some q) query job)
-    (λ named f. cond_both (q.project == p.id) (Ok j) (Err M3) (λ (r : Result Job Code). r ≡ Ok job → IsAsked (Some p) (Some j) (Some q) query job)
-    (λ within g. let same : j ≡ job = cc in record { owner = p; its = q; is_owner = refl; is_found = ap (λ (w : Job). Some w) same; is_pipeline = refl; named = named; within = within })
-    (λ _ g. absurd (cc)) f)
-    (λ _ f. absurd (cc)) e
+asked_parts project found pipeline query job =
+    asked (λ r. r ≡ Ok job → IsAsked project found pipeline query job) project found pipeline query
+    (λ j w e. let same : j ≡ job = cc in subst (IsAsked project found pipeline query) same w) (λ c m e. absurd (cc))
 
 asked_so : (p : Project) (q : Pipeline) (j : Job) (query : JobQuery) → (p.id == query.project) ≡ true → (q.project == p.id) ≡ true → asked_job (Some p) (Some j) (Some q) query ≡ Ok j
 asked_so p q j query named within = cond-true (p.id == query.project) (job_within (Some j) (Some q) p.id) (Err M2) named ∙ cond-true (q.project == p.id) (Ok j) (Err M3) within

@@ -1,7 +1,7 @@
 -- Each sweep that does something leaves fewer live attempts or fewer unfinished pipelines, so at one moment there comes one that finds nothing.
-use Rattle.ci_machine_laws.proofs.Prelude.{◌≡◌, ◌⊎◌, ℕ, zero, suc, ◌+◌, ◌<◌, ◌≤◌, Bool, true, false, ◌==◌, ◌&&◌, ◌||◌, not, if◌then◌else◌, List, [], ◌∷◌, ◌++◌, length, map}
-use Rattle.ci_machine_laws.proofs.Prelude.{filter, find, Option, Some, None, option_map, slice_index_or, refl, sym, ap, subst, ◌∙◌, inl, inr, ⊎_elim, arith, eqb-true, eq-eqb}
-use Rattle.ci_machine_laws.proofs.Prelude.{map-id, last_or, list_any, cond_both, cond-true, cond-false, both_ways, cases_Bool, cases_lt, false≢true, and_parts, and_from}
+use Rattle.ci_machine_laws.proofs.Prelude.{All-cons, ◌≡◌, ◌⊎◌, ℕ, zero, suc, ◌+◌, ◌<◌, ◌≤◌, Bool, true, false, ◌==◌, ◌&&◌, ◌||◌, not, if◌then◌else◌, List, [], ◌∷◌, ◌++◌, length}
+use Rattle.ci_machine_laws.proofs.Prelude.{map, filter, find, Option, Some, None, option_map, slice_index_or, refl, sym, ap, subst, ◌∙◌, inl, inr, ⊎_elim, arith, eqb-true}
+use Rattle.ci_machine_laws.proofs.Prelude.{eq-eqb, map-id, last_or, list_any, cond_both, cond-true, cond-false, both_ways, cases_Bool, cases_lt, false≢true, and_parts, and_from}
 use Rattle.ci_machine_laws.proofs.Prelude.{and_left, false_from_ne_true, length-map, Failed, Part, JobGraph, part_at, predecessors_of, Has, Rising, has_filter, filter_has}
 use Rattle.ci_machine_laws.proofs.Prelude.{has_find, has_map, find-map, one_at, has_from_all, All-from_has, any_has, has_any, put_all, not_its, Sound, sound}
 use Rattle.ci_machine_steps.specs.Prelude.{AttemptState, AllowFailure, is_live_state, Effect, Good, Bars, Facts, Row, Status, is_status, is_allowed, is_allowed_by, effect}
@@ -568,10 +568,7 @@ module _ (now : ℕ) (seed : Seed) (h : List Past) (s : State) (leads : Leads h 
         did = did ∷ rest.did;
         last = rest.last;
         sweeps = (t, seed, step, rest.sweeps);
-        something = All-from_has (λ (d : Swept). d ≡ Swept.Nothing → ⊥) (did ∷ rest.did) (λ d k. ⊎_elim
-            (λ e n. something (sym e ∙ n))
-            (λ m. has_from_all (λ (w : Swept). w ≡ Swept.Nothing → ⊥) d rest.did rest.something m)
-            k);
+        something = All-cons (λ (d : Swept). d ≡ Swept.Nothing → ⊥) did rest.did something rest.something;
         few = let few = rest.few in omega arith;
         none_due = rest.none_due;
         none_redundant = rest.none_redundant;

@@ -1,7 +1,7 @@
 -- What a sweep does, in a state whose records stand in the order of their numbers.
-use Rattle.ci_machine_laws.proofs.Prelude.{◌≡◌, ℕ, ◌≤◌, Bool, true, false, ◌&&◌, List, [], ◌∷◌, map, filter, find, Option, Some, None, option_map, refl, sym, ap, subst, ◌∙◌}
-use Rattle.ci_machine_laws.proofs.Prelude.{⊎_elim, and_parts, cases_Bool, cond_both, Has, Rising, rising_filter, filter_has, has_filter, has_find, least_find, find-map}
-use Rattle.ci_machine_laws.proofs.Prelude.{All-from_has, contains_from_has, has_map}
+use Rattle.ci_machine_laws.proofs.Prelude.{◌∙◌, inl, inr, cond-false, ◌≡◌, ℕ, ◌≤◌, Bool, true, false, ◌&&◌, List, [], ◌∷◌, map, filter, find, Option, Some, None, option_map}
+use Rattle.ci_machine_laws.proofs.Prelude.{refl, sym, ap, subst, ⊎_elim, and_parts, cases_Bool, cond_both, Has, Rising, rising_filter, filter_has, has_filter, has_find}
+use Rattle.ci_machine_laws.proofs.Prelude.{least_find, find-map, All-from_has, contains_from_has, has_map}
 use Rattle.ci_machine_steps.specs.Prelude.{BoardRow, Pipeline, PipelineWithStatus, Attempt, Lease, RowChange, Event, Seed, Answer, Swept, State, AreBoard, is_live, cause_of}
 use Rattle.ci_machine_steps.specs.Prelude.{is_over, first_due, sweep, is_redundant, Happens, lease_of, leases, live_attempts, with_status, was_tried, redundant_in}
 use Rattle.ci_machine_steps.specs.Prelude.{cancellable_in, is_due, NoneIsDue, is_redundant_in, IsLeastRedundant, NoneIsRedundant, SweepsLeast, IsSweptBy}
@@ -13,6 +13,10 @@ find_none p x (z ∷ zs) e k =
     (λ _ f. absurd (cc))
     (λ n f. ⊎_elim (λ q. ap p q ∙ n) (λ m. find_none p x zs f m) k)
     e
+
+pub found_none : {A : Type 0} (p : A → Bool) (xs : List A) → ((y : A) → Has y xs → p y ≡ false) → find p xs ≡ None
+found_none p [] none = refl
+found_none p (y ∷ ys) none = cond-false (p y) (Some y) (find p ys) (none y (inl refl)) ∙ found_none p ys (λ z k. none z (inr k))
 
 -- no lease is over
 none_due : (s : State) (now : ℕ) → first_due (leases s) now ≡ None → NoneIsDue s now
