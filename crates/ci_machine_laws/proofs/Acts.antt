@@ -1,6 +1,6 @@
 -- What a user does to jobs: which records it puts, and which state it leads to.
 use Rattle.ci_machine_laws.proofs.Prelude.{◌≡◌, ◌⊎◌, ℕ, ◌==◌, true, false, List, [], ◌∷◌, ◌++◌, length, map, filter, refl, sym, ap, ◌∙◌, inl, inr, ⊎_elim, and_parts, Has}
-use Rattle.ci_machine_laws.proofs.Prelude.{has_filter, map_has, put_all, has_all, applied_append}
+use Rattle.ci_machine_laws.proofs.Prelude.{has_filter, map_has, put_all, applied_append}
 use Rattle.ci_machine_steps.specs.Prelude.{Job, Attempt, BoardRow, RowChange, Put, Record, State, put, job_cmp, attempt_cmp, applied, jobs_of, attempts_of, status_for, is_live}
 use Rattle.ci_machine_steps.specs.Prelude.{play, retry, is_cancellable, cancellable_jobs, is_lease_on, cancelled_job, cancelled_attempt, cancel, job_for_good}
 use Rattle.ci_machine_laws.proofs.PutAll.{map_twice}
@@ -100,7 +100,3 @@ pub after_cancel : (s : State) (jobs : List Job) → ((j : Job) → Has j jobs �
     → applied (cancel s.attempts jobs) s ≡ record s { jobs = put_all job_cmp (map cancelled_job jobs) s.jobs; attempts = put_all attempt_cmp (map cancelled_attempt (filter (is_lease_on jobs) s.attempts)) s.attempts }
 unfolding cancels
 after_cancel s jobs within = after_act s (cancel s.attempts jobs) (cancels s jobs within)
-
--- each attempt of it was there, or is a cancelled one
-pub came : (s : State) (changes : List RowChange) (act : IsAct s changes) (b : Attempt) → Has b (put_all attempt_cmp act.attempts s.attempts) → Has b s.attempts ⊎ WasLive s b
-came s changes act b k = ⊎_elim (λ m. inl m) (λ m. inr (act.each_attempt b m)) (has_all attempt_cmp act.attempts s.attempts b k)

@@ -1,6 +1,6 @@
 -- How many records of a list pass a test.
-use Rattle.ci_machine_laws.proofs.Prelude.{◌≡◌, ℕ, suc, ◌+◌, ◌≤◌, Bool, true, false, List, [], ◌∷◌, length, map, filter, nat_cmp, sym, ap, ◌∙◌, inl, inr, ⊎_elim, refl, arith}
-use Rattle.ci_machine_laws.proofs.Prelude.{cond_both, cond-true, cond-false, length-append, filter-append, Has, Below, nat_less, put_behind}
+use Rattle.ci_machine_laws.proofs.Prelude.{cases_Bool, ◌≡◌, ℕ, suc, ◌+◌, ◌≤◌, Bool, true, false, List, [], ◌∷◌, length, map, filter, nat_cmp, sym, ap, ◌∙◌, inl, inr, ⊎_elim}
+use Rattle.ci_machine_laws.proofs.Prelude.{refl, arith, cond_both, length-append, filter-append, Has, Below, nat_less, put_behind}
 use Rattle.ci_machine_steps.specs.Prelude.{put}
 
 -- how many of a list pass
@@ -9,10 +9,7 @@ passing p xs = length (filter p xs)
 
 pub passing_mapped : {A : Type 0} (p : A → Bool) (f : A → A) (xs : List A) → passing p (map f xs) ≡ passing (λ x. p (f x)) xs
 passing_mapped p f [] = refl
-passing_mapped p f (x ∷ xs) =
-    cond_both (p (f x)) (f x ∷ filter p (map f xs)) (filter p (map f xs)) (λ l. length l ≡ passing (λ y. p (f y)) (x ∷ xs))
-    (λ e. ap suc (passing_mapped p f xs) ∙ sym (ap (λ (l : List _). length l) (cond-true (p (f x)) (x ∷ filter (λ y. p (f y)) xs) (filter (λ y. p (f y)) xs) e)))
-    (λ e. passing_mapped p f xs ∙ sym (ap (λ (l : List _). length l) (cond-false (p (f x)) (x ∷ filter (λ y. p (f y)) xs) (filter (λ y. p (f y)) xs) e)))
+passing_mapped p f (x ∷ xs) = ⊎_elim (λ e. rw e (ap suc (passing_mapped p f xs))) (λ e. rw e (passing_mapped p f xs)) (cases_Bool (p (f x)))
 
 -- what passes the one test passes the other
 pub passing_implied : {A : Type 0} (p q : A → Bool) (xs : List A) → ((x : A) → Has x xs → q x ≡ true → p x ≡ true) → passing q xs ≤ passing p xs

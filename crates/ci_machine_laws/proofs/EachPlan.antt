@@ -55,10 +55,13 @@ abbrev pub IsPipeline : Result Pipeline Code → Type 0
 IsPipeline (Ok p) = Unit {0}
 IsPipeline (Err code) = IsMachineCode code
 
+pipeline_in : (found : Option Pipeline) (project : ℕ) → IsPipeline (pipeline_within found project)
+pipeline_in None project = tt
+pipeline_in (Some p) project = cond_both (p.project == project) (Ok p) (Err M3) IsPipeline (λ _. tt) (λ _. tt)
+
 pub pipeline_by : (s : State) (named : ℕ) (found : Option Pipeline) (r : Result Project Code) → Asked s named r → IsPipeline (asked_pipeline r found)
 pipeline_by s named found (Err code) asked = asked
-pipeline_by s named None (Ok project) asked = tt
-pipeline_by s named (Some p) (Ok project) asked = cond_both (p.project == project.id) (Ok p) (Err M3) IsPipeline (λ _. tt) (λ _. tt)
+pipeline_by s named found (Ok project) asked = pipeline_in found project.id
 
 abbrev pub given_in : State → NewPipeline → Given
 given_in s new = given_by new (project_variables s new.project)
@@ -231,10 +234,6 @@ one_told s job (Some a) = cond_both (a.job == job) (Ok a) (Err M3) (λ r. IsTold
 trace_told : (s : State) (attempt : ℕ) (r : Result Job Code) → Found s r → IsTold (trace_read s (attempt_of s r attempt))
 trace_told s attempt (Err code) found = found
 trace_told s attempt (Ok j) found = one_told s j.id (attempt_at s attempt)
-
-pipeline_in : (found : Option Pipeline) (project : ℕ) → IsPipeline (pipeline_within found project)
-pipeline_in None project = tt
-pipeline_in (Some p) project = cond_both (p.project == project) (Ok p) (Err M3) IsPipeline (λ _. tt) (λ _. tt)
 
 job_in : (s : State) (n project : ℕ) → Found s (job_within (job_at s n) (pipeline_of s (job_at s n)) project)
 job_in s n project = within (Found s) (job_at s n) (pipeline_of s (job_at s n)) project (λ j p is _ _. job_at_has s n j is) (λ c m. m)

@@ -1,11 +1,11 @@
 -- Attempts in every state that a history leads to: which are live, and how each was granted.
-use Rattle.ci_machine_laws.proofs.Prelude.{rules, ◌≡◌, ◌⊎◌, ℕ, ◌+◌, ◌<◌, ◌≤◌, true, false, ◌==◌, ◌&&◌, List, [], ◌∷◌, filter, Some, None, refl, sym, ap, subst, ◌∙◌, ⊎_elim}
-use Rattle.ci_machine_laws.proofs.Prelude.{arith, eqb-true, eq-eqb, cond-true, cond-false, and_parts, put_all, Has, Rising, has_put, rising_put, rising_filter, has_filter}
-use Rattle.ci_machine_laws.proofs.Prelude.{filter_has, last_greatest, count_one}
+use Rattle.ci_machine_laws.proofs.Prelude.{has_all, rules, ◌≡◌, ◌⊎◌, ℕ, ◌+◌, ◌<◌, ◌≤◌, true, false, ◌==◌, ◌&&◌, List, [], ◌∷◌, filter, Some, None, refl, sym, ap, subst, ◌∙◌}
+use Rattle.ci_machine_laws.proofs.Prelude.{⊎_elim, arith, eqb-true, eq-eqb, cond-true, cond-false, and_parts, put_all, Has, Rising, has_put, rising_put, rising_filter}
+use Rattle.ci_machine_laws.proofs.Prelude.{has_filter, filter_has, last_greatest, count_one}
 use Rattle.ci_machine_steps.specs.Prelude.{attempt_for_good, Runner, Job, Attempt, Event, AskJob, State, attempt_cmp, put, attempts_of, is_live, last_attempt, Past, grants}
 use Rattle.ci_machine_steps.specs.Prelude.{IsLeastEligible, OneLease, RowChange}
 use Rattle.std.proofs.lemmas.Bool.{ne_eqb}
-use Rattle.ci_machine_laws.proofs.Acts.{IsAct, came}
+use Rattle.ci_machine_laws.proofs.Acts.{IsAct}
 
 -- just one line granted the attempt, to the least eligible job: as the law says, but for how the job came into its pipeline
 pub record WasGiven (h : List Past) (a : Attempt) : Type 0 where
@@ -77,7 +77,8 @@ stood_put s x a has good live b k = ⊎_elim (λ e. record { old = a; has = has;
 
 -- what an act leaves
 pub stood_act : (s : State) (changes : List RowChange) (act : IsAct s changes) (b : Attempt) → Has b (put_all attempt_cmp act.attempts s.attempts) → Stood s b
-stood_act s changes act b k = ⊎_elim (stood_self s b) (λ w. record { old = w.old; has = w.has; good = sym (ap attempt_for_good w.is); live = λ _. w.live }) (came s changes act b k)
+stood_act s changes act b k =
+    ⊎_elim (stood_self s b) (λ m. let w = act.each_attempt b m in record { old = w.old; has = w.has; good = sym (ap attempt_for_good w.is); live = λ _. w.live }) (has_all attempt_cmp act.attempts s.attempts b k)
 
 -- a step with no attempts but those that were there
 pub stand : (h : List Past) (s t : State) (p : Past) → Grants h s → ((n : ℕ) → grants n p ≡ false) → ((b : Attempt) → Has b t.attempts → Stood s b)

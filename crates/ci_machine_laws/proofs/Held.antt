@@ -7,8 +7,7 @@ use Rattle.ci_machine_laws.proofs.Reached.{reached}
 use Rattle.ci_machine_laws.proofs.Linked.{Linked, linked_on, follows}
 use Rattle.ci_machine_laws.proofs.Joined.{Joined, joined_none, joined_on}
 use Rattle.ci_machine_laws.proofs.Left.{linked_left, Since, since_line, since_through}
-use Rattle.ci_machine_laws.proofs.Sweeps.{swept_by}
-use Rattle.ci_machine_laws.proofs.Prunable.{pruned_by}
+use Rattle.ci_machine_laws.proofs.Sweeps.{pruned_by, swept_by}
 
 pub record Held (h : List Past) (s : State) : Type 0 where
   pub linked : Linked s

@@ -5,10 +5,7 @@ use Rattle.ci_machine_steps.specs.Prelude.{BoardRow, Job, Attempt, Event, Seed, 
 use Rattle.ci_machine_steps.specs.Prelude.{WasIncluded}
 use Rattle.ci_machine_laws.proofs.EachPlan.{given_in}
 use Rattle.ci_machine_laws.proofs.EachNext.{EachNext, next_is}
-use Rattle.ci_machine_laws.proofs.Reached.{reached}
-
-abbrev line : State → Event → ℕ → Seed → Answer → Past
-line s e now seed a = record { before = s; event = e; now = now; seed = seed; answer = a }
+use Rattle.ci_machine_laws.proofs.Reached.{line, reached}
 
 -- the job was there, with what it has for good
 abbrev Was : State → Job → Type 0

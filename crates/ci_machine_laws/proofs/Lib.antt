@@ -16,7 +16,6 @@ pub mod Linked
 pub mod Joined
 pub mod Left
 pub mod Sweeps
-pub mod Prunable
 pub mod Held
 pub mod Groups
 pub mod Finished

@@ -1,8 +1,9 @@
 -- Where a runner is told that there is no job, none of the pending ones is one that it may be given.
-use Rattle.ci_machine_laws.proofs.Prelude.{not-false, or_cases, ◌≡◌, ◌⊎◌, ℕ, Bool, true, false, not, ◌==◌, ◌&&◌, ◌||◌, nat_lt, List, [], ◌∷◌, All, Contains, Option, Some, None}
-use Rattle.ci_machine_laws.proofs.Prelude.{option_map, refl, sym, ap, subst, ◌∙◌, inl, inr, ⊎_elim, eqb-true, eq-eqb, ltb-true, lt-ltb, list_any, list_all, bytes_eq, cond_both}
-use Rattle.ci_machine_laws.proofs.Prelude.{both_ways, false≢true, and_parts, and_from, and_cases, or_left, or_right, bytes_eq-Decides, not_true, Has, Rising, has_filter}
-use Rattle.ci_machine_laws.proofs.Prelude.{filter_has, has_find, has_map, All-from_has, contains_from_has, has_from_contains, any_has, has_any, any_joined}
+use Rattle.ci_machine_laws.proofs.Prelude.{has_from_all, not-false, or_cases, ◌≡◌, ◌⊎◌, ℕ, Bool, true, false, not, ◌==◌, ◌&&◌, ◌||◌, nat_lt, List, [], ◌∷◌, All, Contains, Option}
+use Rattle.ci_machine_laws.proofs.Prelude.{Some, None, option_map, refl, sym, ap, subst, ◌∙◌, inl, inr, ⊎_elim, eqb-true, eq-eqb, ltb-true, lt-ltb, list_any, list_all, bytes_eq}
+use Rattle.ci_machine_laws.proofs.Prelude.{cond_both, both_ways, false≢true, and_parts, and_from, and_cases, or_left, or_right, bytes_eq-Decides, not_true, Has, Rising}
+use Rattle.ci_machine_laws.proofs.Prelude.{has_filter, filter_has, has_find, has_map, All-from_has, contains_from_has, has_from_contains, any_has, has_any, any_joined}
+use Rattle.std.proofs.lemmas.List.Sums.{AllPass-from_list_all}
 use Rattle.ci_machine_steps.specs.Prelude.{MAX_NUMBER, Status, BoardRow, GroupOrder, OldestFirst, NewestReadyFirst, Job, JobVariable, QueuedJob, Runner, WaitingJob, Event}
 use Rattle.ci_machine_steps.specs.Prelude.{AskJob, Seed, Answer, M15, NoContent, Reply, State, status_for, AreBoard, is_live, is_open_to, has_tag, takes, may_run, holds}
 use Rattle.ci_machine_steps.specs.Prelude.{claims_group, is_free, resource_free, is_eligible, chosen, order_of, goes_before_in, claims_on, is_in_line, is_behind, queued_at}
@@ -25,10 +26,6 @@ use Rattle.ci_machine_laws.proofs.Held as every
 all_has : {A : Type 0} (p : A → Bool) (xs : List A) → list_all p xs ≡ false → (x : A) × (Has x xs × (p x ≡ false))
 all_has p [] e = absurd (false≢true (sym e))
 all_has p (x ∷ xs) e = ⊎_elim (λ f. (x, (inl refl, f))) (λ f. let w = all_has p xs f in (w.0, (inr w.1.0, w.1.1))) (and_cases (p x) (list_all p xs) e)
-
-has_all : {A : Type 0} (p : A → Bool) (x : A) (xs : List A) → list_all p xs ≡ true → Has x xs → p x ≡ true
-has_all p x [] e k = absurd k
-has_all p x (y ∷ ys) e k = let parts = and_parts (p y) (list_all p ys) e in ⊎_elim (λ s. ap p s ∙ parts.0) (λ m. has_all p x ys parts.1 m) k
 
 -- ---- what an attempt holds, and a job waits for
 
@@ -205,7 +202,7 @@ module _ (s : State) (board : List BoardRow) (rise : Rising (λ (j : Job). j.id)
 
     takes_each : (tags : List (List ℕ)) (tag : List ℕ) → takes runner tags ≡ true → Has tag tags → has_tag runner tag ≡ true
     takes_each [] tag e m = absurd m
-    takes_each (first ∷ tags) tag e m = has_all (has_tag runner) tag (first ∷ tags) e m
+    takes_each (first ∷ tags) tag e m = has_from_all (λ own. has_tag runner own ≡ true) tag (first ∷ tags) (AllPass-from_list_all (has_tag runner) (first ∷ tags) e) m
 
     reasons : is_eligible runner (groups_in s board) (queued s job) ≡ true → IsNotFor s board runner job → ⊥
     reasons e (paused p) = both_ways runner.paused (not_true runner.paused (and_parts (not runner.paused) _ (and_parts (not runner.paused && is_open_to runner.project (queued s job).project) _ (and_parts (may_run runner (queued s job).project job.options.tags) _ e).0).0).0) p

@@ -3,10 +3,10 @@ use Rattle.ci_machine_laws.proofs.Prelude.{rules, ◌≡◌, ◌⊎◌, ℕ, ◌
 use Rattle.ci_machine_laws.proofs.Prelude.{⊎_elim, arith, bytes_eq, both_ways, cases_Bool, bytes_eq-Decides, Has, Rising, rising_put, has_put, rising_filter, has_filter}
 use Rattle.ci_machine_laws.proofs.Prelude.{filter_has, has_find, least_find, find-map, one_at, All-from_has, contains_from_has, put_all, attempt_was, attempt_left, trace_left}
 use Rattle.ci_machine_laws.proofs.Prelude.{false≢true}
-use Rattle.ci_machine_steps.specs.Prelude.{is_grant, BoardRow, Runner, Job, JobVariable, QueuedJob, Attempt, TracePart, Event, AskJob, AppendTrace, Seed, Answer, State, applied}
-use Rattle.ci_machine_steps.specs.Prelude.{put, job_cmp, attempt_cmp, jobs_of, AreBoard, is_live, is_eligible, chosen, groups_in, creation, pipeline_created, granted, grown}
-use Rattle.ci_machine_steps.specs.Prelude.{is_job_among, pruned_reply, without_pipeline, runner_with, last_attempt, is_pending, pending_jobs, queued, queue, Past, Leads, grants}
-use Rattle.ci_machine_steps.specs.Prelude.{accepted_bytes, Status, is_status}
+use Rattle.ci_machine_steps.specs.Prelude.{trace_in, is_grant, BoardRow, Runner, Job, JobVariable, QueuedJob, Attempt, TracePart, Event, AskJob, AppendTrace, Seed, Answer, State}
+use Rattle.ci_machine_steps.specs.Prelude.{applied, put, job_cmp, attempt_cmp, jobs_of, AreBoard, is_live, is_eligible, chosen, groups_in, creation, pipeline_created, granted}
+use Rattle.ci_machine_steps.specs.Prelude.{grown, is_job_among, pruned_reply, without_pipeline, runner_with, last_attempt, is_pending, pending_jobs, queued, queue, Past, Leads}
+use Rattle.ci_machine_steps.specs.Prelude.{grants, accepted_bytes, Status, is_status}
 use Rattle.ci_machine_steps.proofs.Running.{live_runs}
 use Rattle.ci_machine_laws.proofs.Grants.{Grants, live_last}
 use Rattle.ci_machine_laws.proofs.PutAll.{rising_all, has_still}
@@ -25,7 +25,7 @@ pub record Inv (h : List Past) (s : State) : Type 0 where
   pub ends : Ends h s
 
 -- the line of an event with this answer
-abbrev line : State → Event → ℕ → Seed → Answer → Past
+abbrev pub line : State → Event → ℕ → Seed → Answer → Past
 line s e now seed a = record { before = s; event = e; now = now; seed = seed; answer = a }
 
 -- the invariant goes on to this state, by a line with this answer
@@ -77,7 +77,7 @@ starts h s board token now seed are i runner q vs at given found offered =
         least = All-from_has Least s.jobs (λ other k p m.
             least_find (λ (w : Job). w.id) test job other 0 (pending_jobs s board) (rising_filter (λ (w : Job). w.id) (is_pending board) 0 s.jobs i.grants.jobs_rise) first.1.1 (filter_has (is_pending board) other s.jobs k p) m);
       }) (ap (λ t. Event.Request (AskJob t)) (sym ((bytes_eq-Decides runner.token token).0 is_runner.1))) refl refl refl;
-      traces = trace.stays h s _ _ i.traces (λ n. refl) refl (omega arith) known;
+      traces = trace.stays h s _ _ i.traces (λ n. refl) (λ u k. k) (λ b k. refl) (omega arith) known;
       ends = finals.puts h s t _ _ refl i.ends (omega arith, known) refl (λ b k e. let l : b.id < s.next.attempt = i.grants.below b k in let m : b.id ≡ s.next.attempt = e in absurd (omega arith));
     }
 
@@ -110,7 +110,7 @@ each h s board e now seed are i = record {
       let t : State = record s { attempts = put attempt_cmp x s.attempts } in
       record {
         grants = leased.stand h s t p i.grants (isnt a quiet.0) (leased.stood_put s x old has refl live) (rising_put (λ (b : Attempt). b.id) x 0 s.attempts i.grants.rise (omega arith)) refl i.grants.jobs_rise;
-        traces = trace.stays h s t p i.traces quiet.1 refl (omega arith) (in_place s old x has refl);
+        traces = trace.stays h s t p i.traces quiet.1 (λ u k. k) (λ b k. refl) (omega arith) (in_place s old x has refl);
         ends = finals.puts h s t p x refl i.ends (omega arith, in_place s old x has refl) refl (only_live i old has live refl);
       };
   grown = λ part is old at size has its live.
@@ -123,7 +123,7 @@ each h s board e now seed are i = record {
       record {
         grants = leased.stand h s t p i.grants (isnt a quiet.0) stood
             (rising_all (λ (b : Attempt). b.id) act.attempts s.attempts i.grants.rise) refl (rising_all (λ (j : Job). j.id) act.jobs s.jobs i.grants.jobs_rise);
-        traces = trace.stays h s t p i.traces quiet.1 refl (omega arith) (λ b k. known s b (stood b k));
+        traces = trace.stays h s t p i.traces quiet.1 (λ u k. k) (λ b k. refl) (omega arith) (λ b k. known s b (stood b k));
         ends = finals.leaves_ended h s t p refl i.ends (omega arith, λ b k. known s b (stood b k)) (λ b k ended. has_still (λ (c : Attempt). c.id) act.attempts s.attempts b k
             (λ c m f. let w = act.each_attempt c m in
             let same : b ≡ w.old = one_at (λ (d : Attempt). d.id) b w.old 0 s.attempts i.grants.rise k w.has (f ∙ ap (λ (d : Attempt). d.id) w.is) in
@@ -140,7 +140,7 @@ each h s board e now seed are i = record {
       record {
         grants = leased.stand h s t q i.grants (λ m. ap (λ w. grants m (line s w now seed answer)) is) (λ b k. leased.stood_self s b (had b k))
             (rising_filter (λ (b : Attempt). b.id) _ 0 s.attempts rise) refl (rising_filter (λ (j : Job). j.id) _ 0 s.jobs jobs_rise);
-        traces = trace.leaves h s t q i.traces (λ m. ap (λ w. accepted_bytes m w answer) is) (λ u k. (has_filter _ u s.traces k).0) refl had (λ b k. trace_left s n jobs_rise rise b k);
+        traces = trace.stays h s t q i.traces (λ m. ap (λ w. accepted_bytes m w answer) is) (λ u k. (has_filter _ u s.traces k).0) (λ b k. trace_left s n jobs_rise rise b k) (omega arith) (λ b k. same s b (had b k));
         ends = finals.goes_on h s t q refl i.ends (omega arith, λ b k. same s b (had b k)) (λ a k ended. ⊎_elim
             (λ f. inr (
               goes_with q h s n refl (before, is, refl) a f,
@@ -166,7 +166,7 @@ each h s board e now seed are i = record {
       let p = line s e now seed a in
       record {
         grants = leased.stand h s t p i.grants none (λ b k. leased.stood_self s b (subst (Has b) same_attempts k)) (subst (λ l. Rising (λ (b : Attempt). b.id) 0 l) (sym same_attempts) i.grants.rise) same_next rise;
-        traces = trace.stays h s t p i.traces quiet same_traces (omega arith) (λ b k. same s b (subst (Has b) same_attempts k));
+        traces = trace.stays h s t p i.traces quiet (λ u k. subst (Has u) same_traces k) (λ b k. ap (trace_in b.id) same_traces) (omega arith) (λ b k. same s b (subst (Has b) same_attempts k));
         ends = finals.stays h s t p refl i.ends same_attempts same_next;
       }
 

@@ -28,13 +28,13 @@ no_more n p h e = ap (λ l. all_accepted n h ++ l) e ∙ append-nil (all_accepte
 none_yet : (h : List Past) (s : State) (n : ℕ) → Traces h s → s.next.attempt ≤ n → trace_of s n ≡ []
 none_yet h s n i l = no_trace n s.traces (λ t k e. let b : t.attempt < s.next.attempt = i.below t k in absurd (omega arith))
 
--- a step that leaves the traces, and accepts no bytes
-pub stays : (h : List Past) (s t : State) (p : Past) → Traces h s → ((n : ℕ) → accepted_bytes n p.event p.answer ≡ []) → t.traces ≡ s.traces → s.next.attempt ≤ t.next.attempt
-    → ((b : Attempt) → Has b t.attempts → Was s b ⊎ IsNew s b) → Traces (p ∷ h) t
-stays h s t p i none e f cases = record {
-  below = λ u k. let l : u.attempt < s.next.attempt = i.below u (subst (Has u) e k) in omega arith;
+-- a step that accepts no bytes, and leaves each attempt its trace
+pub stays : (h : List Past) (s t : State) (p : Past) → Traces h s → ((n : ℕ) → accepted_bytes n p.event p.answer ≡ []) → ((u : Trace) → Has u t.traces → Has u s.traces)
+    → ((b : Attempt) → Has b t.attempts → trace_of t b.id ≡ trace_of s b.id) → s.next.attempt ≤ t.next.attempt → ((b : Attempt) → Has b t.attempts → Was s b ⊎ IsNew s b) → Traces (p ∷ h) t
+stays h s t p i none were its f cases = record {
+  below = λ u k. omega (arith, i.below u (were u k));
   traced = λ b k.
-      ap (trace_in b.id) e
+      its b k
       ∙ (⊎_elim (λ w. subst (λ n. trace_of s n ≡ all_accepted n h) w.1.1 (i.traced w.0 w.1.0)) (λ w. none_yet h s b.id i w ∙ sym (i.quiet b.id w)) (cases b k)
       ∙ sym (no_more b.id p h (none b.id)));
   quiet = λ n l. no_more n p h (none n) ∙ i.quiet n (omega arith);
@@ -60,12 +60,3 @@ grows h s t p a x bytes i has known same_id accepted e f g =
           (has_put_other attempt_cmp x b s.attempts (subst (Has b) f k));
       quiet = λ n l. let m : s.next.attempt ≤ n = subst (λ w. w ≤ n) g l in no_more n p h (no_bytes n (λ d. absurd (omega arith))) ∙ i.quiet n m;
     }
-
--- a step that leaves some of the attempts, each with its trace, and accepts no bytes
-pub leaves : (h : List Past) (s t : State) (p : Past) → Traces h s → ((n : ℕ) → accepted_bytes n p.event p.answer ≡ []) → ((u : Trace) → Has u t.traces → Has u s.traces) → t.next.attempt ≡ s.next.attempt
-    → ((b : Attempt) → Has b t.attempts → Has b s.attempts) → ((b : Attempt) → Has b t.attempts → trace_of t b.id ≡ trace_of s b.id) → Traces (p ∷ h) t
-leaves h s t p i none were same_next had its_trace = record {
-  below = λ u k. subst (λ n. u.attempt < n) (sym same_next) (i.below u (were u k));
-  traced = λ b k. its_trace b k ∙ (i.traced b (had b k) ∙ sym (no_more b.id p h (none b.id)));
-  quiet = λ n l. no_more n p h (none n) ∙ i.quiet n (subst (λ m. m ≤ n) same_next l);
-}
