@@ -7,7 +7,7 @@ use Rattle.ci_machine_steps.specs.Prelude.{M13, M14, M15, Detail, K, Body, Json,
 use Rattle.ci_machine_steps.specs.Prelude.{status_for, printed_status, job_data, pipeline_data, Plan, refused, faulted, fine, asked_project, file_set, set_file, SetsFile}
 use Rattle.ci_machine_steps.specs.Prelude.{count_with, variable_set, set_variable, variable_gone, delete_variable, mode_told, mode_change, set_mode, show_mode, have_names}
 use Rattle.ci_machine_steps.specs.Prelude.{file_or_none, may_create, given_by, Layout, IsLaidOut, lacks_numbers, creation, creation_changes, pipeline_created, MakesUnless, Makes}
-use Rattle.ci_machine_steps.specs.Prelude.{Creates, asked_pipeline, pipeline_within, pipeline_shown, show_pipeline, job_within, asked_job, shown, jobs_read, attempts_read}
+use Rattle.ci_machine_steps.specs.Prelude.{Creates, asked_pipeline, pipeline_within, pipeline_shown, show_pipeline, job_within, asked_job, jobs_read, attempts_read}
 use Rattle.ci_machine_steps.specs.Prelude.{attempt_within, attempt_of, trace_read, read_of, read, permitted, ActsOn, cancellable_jobs, cancel, CancelsSome, CancelsPipeline}
 use Rattle.ci_machine_steps.specs.Prelude.{claims_in, project_with, project_variables, pipeline_at, attempt_at, pipeline_of, job_at, found_job, queued}
 use Rattle.serde_json.specs.Written.{compact_text}

@@ -4,7 +4,7 @@ use Rattle.ci_machine_laws.proofs.Prelude.{ne_eqb, both_ways, cases_Bool, not_tr
 use Rattle.ci_machine_laws.proofs.Prelude.{attempts_left, attempt_was, attempt_left}
 use Rattle.ci_machine_steps.specs.Prelude.{Pipeline, Job, Need, Attempt, State, jobs_of, is_job_among, without_pipeline, Past, project_for_good, runner_for_good, job_for_good}
 use Rattle.ci_machine_steps.specs.Prelude.{attempt_for_good, Prunes, WasPruned, WentWithItsJob}
-use Rattle.ci_machine_laws.proofs.Gone.{still_pruned, still_gone, is_pruned, goes_with}
+use Rattle.ci_machine_laws.proofs.Ends.{still_pruned, still_gone, is_pruned, goes_with}
 use Rattle.ci_machine_laws.proofs.Linked.{Later, later, Linked, Follows}
 use Rattle.ci_machine_laws.proofs.Joined.{Joined}
 

@@ -6,7 +6,6 @@ pub mod Grants
 pub mod Computed
 pub mod Traces
 pub mod Pieces
-pub mod Gone
 pub mod Ends
 pub mod PutAll
 pub mod Acts

@@ -1,6 +1,6 @@
 -- What a step leaves, and which records others name.
 use Rattle.ci_machine_laws.proofs.Prelude.{rules, ◌≡◌, ◌⊎◌, ℕ, ◌+◌, ◌<◌, ◌≤◌, Bool, ◌==◌, List, [], ◌∷◌, ◌++◌, length, map, filter, Ok, nat_cmp, is_lt, Ordering, refl, sym, ap}
-use Rattle.ci_machine_laws.proofs.Prelude.{subst, ◌∙◌, inl, inr, ⊎_elim, arith, cond_both, Given, Has, Rising, has_put, same, rising_put, has_find, has_map, one_at, Below, Named}
+use Rattle.ci_machine_laws.proofs.Prelude.{subst, ◌∙◌, inl, inr, ⊎_elim, arith, cond_both, Given, Has, Rising, has_put, rising_put, has_find, has_map, one_at, Below, Named}
 use Rattle.ci_machine_laws.proofs.Prelude.{nat_less, in_either, has_left, has_right, put_behind, put_all, has_all, created_state, new_length, IsNew, new_are, new_numbered}
 use Rattle.ci_machine_laws.proofs.Prelude.{needs_are, pairs_inside, jobs_behind}
 use Rattle.ci_machine_steps.specs.Prelude.{BoardRow, Need, Project, Runner, Pipeline, QueuedJob, Job, Attempt, RowChange, NewPipeline, Event, Seed, Answer, State, applied}
@@ -11,7 +11,7 @@ use Rattle.ci_machine_laws.proofs.PutAll.{all_at, all_at_id, all_in_place, at_or
 use Rattle.ci_machine_laws.proofs.Acts.{IsAct}
 use Rattle.ci_machine_laws.proofs.EachPlan.{given_in}
 use Rattle.ci_machine_laws.proofs.EachNext.{EachNext, IsAside, project_made, runner_made, runner_stands, file_stands, next_is}
-use Rattle.ci_machine_laws.proofs.Gone.{IsPruned}
+use Rattle.ci_machine_laws.proofs.Ends.{IsPruned}
 
 -- ---- lists
 

@@ -76,34 +76,21 @@ module _ {A : Type 0} (id : A → ℕ) where
 
 -- the pipelines that are listed of a project are its newest, where the numbers of all rise
 listed_newest : (s : State) (project : ℕ) → Rising (λ (p : Pipeline). p.id) 0 s.pipelines → AreNewest s project (listed_pipelines s project)
-listed_newest s project rise = record {
-  own = All-from_has Own shown (λ p k. let at = has_filter is_its p s.pipelines (has_reverse id p its (take_has id LISTED_PIPELINES p (reverse its) k)) in (contains_from_has p s.pipelines at.0, eqb-true p.project project at.1));
-  fall = ascend (λ a b. nat_cmp b a) (map id shown) (numbers_fall id shown (falls_take id LISTED_PIPELINES (reverse its) falls));
-  newest = All-from_has IsListed s.pipelines (λ p k of. ⊎_elim
-      (λ h. inl (contains_from_has p shown h))
-      (λ h. inr (h.0, All-from_has (λ (q : Pipeline). p.id < q.id) shown h.1))
-      (left_out id LISTED_PIPELINES p (reverse its) falls (reverse_has id p its (filter_has is_its p s.pipelines k (eq-eqb p.project project of)))));
-} where
-  id : Pipeline → ℕ
-  id p = p.id
-
-  is_its : Pipeline → Bool
-  is_its p = p.project == project
-
-  its : List Pipeline
-  its = filter is_its s.pipelines
-
-  shown : List Pipeline
-  shown = listed_pipelines s project
-
-  Own : Pipeline → Type 0
-  Own p = Contains s.pipelines p × (p.project ≡ project)
-
-  IsListed : Pipeline → Type 0
-  IsListed p = p.project ≡ project → Contains shown p ⊎ ((length shown ≡ LISTED_PIPELINES) × All (λ q. p.id < q.id) shown)
-
-  falls : Falls id (reverse its)
-  falls = falls_reverse id 0 its (rising_filter id is_its 0 s.pipelines rise)
+listed_newest s project rise =
+    let id : Pipeline → ℕ = λ p. p.id in
+    let is_its : Pipeline → Bool = λ p. p.project == project in
+    let its = filter is_its s.pipelines in
+    let shown = listed_pipelines s project in
+    let falls = falls_reverse id 0 its (rising_filter id is_its 0 s.pipelines rise) in
+    record {
+      own = All-from_has (λ (p : Pipeline). Contains s.pipelines p × (p.project ≡ project)) shown (λ p k.
+          let at = has_filter is_its p s.pipelines (has_reverse id p its (take_has id LISTED_PIPELINES p (reverse its) k)) in (contains_from_has p s.pipelines at.0, eqb-true p.project project at.1));
+      fall = ascend (λ a b. nat_cmp b a) (map id shown) (numbers_fall id shown (falls_take id LISTED_PIPELINES (reverse its) falls));
+      newest = All-from_has (λ (p : Pipeline). p.project ≡ project → Contains shown p ⊎ ((length shown ≡ LISTED_PIPELINES) × All (λ (q : Pipeline). p.id < q.id) shown)) s.pipelines (λ p k of. ⊎_elim
+          (λ h. inl (contains_from_has p shown h))
+          (λ h. inr (h.0, All-from_has (λ (q : Pipeline). p.id < q.id) shown h.1))
+          (left_out id LISTED_PIPELINES p (reverse its) falls (reverse_has id p its (filter_has is_its p s.pipelines k (eq-eqb p.project project of)))));
+    }
 
 -- ---- what is told of them
 

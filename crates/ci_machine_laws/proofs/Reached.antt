@@ -12,8 +12,7 @@ use Rattle.ci_machine_laws.proofs.Grants.{Grants, live_last}
 use Rattle.ci_machine_laws.proofs.PutAll.{rising_all, has_still}
 use Rattle.ci_machine_laws.proofs.EachPlan.{given_in}
 use Rattle.ci_machine_laws.proofs.EachNext.{EachNext, next_is}
-use Rattle.ci_machine_laws.proofs.Gone.{goes_with}
-use Rattle.ci_machine_laws.proofs.Ends.{Ends}
+use Rattle.ci_machine_laws.proofs.Ends.{goes_with, Ends}
 use Rattle.ci_machine_laws.proofs.Traces.{Traces, Was, IsNew, same}
 use Rattle.ci_machine_laws.proofs.Grants as leased
 use Rattle.ci_machine_laws.proofs.Traces as trace
