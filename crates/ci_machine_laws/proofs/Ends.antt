@@ -59,12 +59,10 @@ abbrev pub AreKnown : State → State → Type 0
 AreKnown s t = (s.next.attempt ≤ t.next.attempt) × ((b : Attempt) → Has b t.attempts → Was s b ⊎ IsNew s b)
 
 still_missing : (n : ℕ) (s t : State) → AreKnown s t → IsMissing n s → IsMissing n t
-still_missing n s t known missing =
-    let below : n < s.next.attempt = missing.0 in
-    let more : s.next.attempt ≤ t.next.attempt = known.0 in (
-      omega arith,
-      λ b k e. ⊎_elim (λ w. missing.1 w.0 w.1.0 (w.1.1 ∙ e)) (λ w. let new : s.next.attempt ≤ b.id = w in absurd (omega arith)) (known.1 b k),
-    )
+still_missing n s t known missing = (
+  omega (arith, missing.0, known.0),
+  λ b k e. ⊎_elim (λ w. missing.1 w.0 w.1.0 (w.1.1 ∙ e)) (λ (w : s.next.attempt ≤ b.id). absurd (omega (arith, missing.0))) (known.1 b k),
+)
 
 earlier : (h : List Past) (s : State) (p : Past) → p.before ≡ s → Ends h s → (q : Past) → Has q (p ∷ h) → (a : Attempt) → Has a q.before.attempts → is_live a ≡ false → Has a s.attempts ⊎ HasGone h s a
 earlier h s p b i q k a m l = ⊎_elim (λ e. inl (subst (λ (w : State). Has a w.attempts) (ap (λ (w : Past). w.before) e ∙ b) m)) (λ n. i q n a m l) k

@@ -35,9 +35,7 @@ one_lease h s i job = count_one (λ a. a.id) (λ a. is_live a && (a.job == job))
     let x = and_parts (is_live a) (a.job == job) p in
     let y = and_parts (is_live b) (b.job == job) q in
     let same : a.job ≡ b.job = eqb-true a.job job x.1 ∙ sym (eqb-true b.job job y.1) in
-    let ba : b.id ≤ a.id = i.is_last a b k l x.0 same in
-    let ab : a.id ≤ b.id = i.is_last b a l k y.0 (sym same) in
-    omega arith)
+    omega (arith, i.is_last a b k l x.0 same, i.is_last b a l k y.0 (sym same)))
 
 -- and a live attempt stands last among those of its job
 pub live_last : (h : List Past) (s : State) → Grants h s → (a : Attempt) → Has a s.attempts → is_live a ≡ true → last_attempt s a.job ≡ Some a

@@ -1,6 +1,6 @@
 -- A new pipeline in the state that has it: its jobs, and their facts.
-use Rattle.ci_machine_laws.proofs.Prelude.{◌≡◌, ℕ, ◌+◌, ◌-◌, ◌<◌, ◌≤◌, Bool, ◌==◌, List, [], ◌∷◌, ◌++◌, length, map, filter, replicate, option_map, None, refl, ap, ◌∙◌, inl, inr}
-use Rattle.ci_machine_laws.proofs.Prelude.{arith, eq-eqb, ne_eqb, last_or, filter-append, Given, Has, filter_none, filter_all, created_state, after_creation, IsNew, new_are}
+use Rattle.ci_machine_laws.proofs.Prelude.{◌≡◌, ℕ, ◌+◌, ◌-◌, Bool, ◌==◌, List, [], ◌∷◌, ◌++◌, length, map, filter, replicate, option_map, None, refl, ap, ◌∙◌, inl, inr, arith}
+use Rattle.ci_machine_laws.proofs.Prelude.{eq-eqb, ne_eqb, last_or, filter-append, Given, Has, filter_none, filter_all, created_state, after_creation, IsNew, new_are}
 use Rattle.ci_machine_laws.proofs.Prelude.{jobs_behind}
 use Rattle.ci_machine_steps.specs.Prelude.{Facts, no_facts, Attempt, Job, NewPipeline, State, applied, jobs_of, attempts_of, facts_in, facts_of, Layout, Creation, creation}
 use Rattle.ci_machine_steps.specs.Prelude.{creation_changes}
@@ -36,25 +36,16 @@ module _ (s : State) (i : Linked s) (new : NewPipeline) (given : Given) (now : �
   pub its_jobs : jobs_of t id ≡ made.jobs
   its_jobs =
       let test : Job → Bool = λ j. j.pipeline == id in
-      ap (filter test) jobs_are
-      ∙ (filter-append test s.jobs made.jobs
-      ∙ ((λ k. none k ++ all k)))
-    where
-      none : filter (λ (j : Job). j.pipeline == id) s.jobs ≡ []
-      none = filter_none (λ (j : Job). j.pipeline == id) s.jobs (λ j k. let p = i.job_pipeline j k in ne_eqb j.pipeline id (λ e. let l : p.0.id < s.next.pipeline = i.pipeline_below p.0 p.1.0 in let same : p.0.id ≡ j.pipeline = p.1.1 in absurd (omega arith)))
-
-      all : filter (λ (j : Job). j.pipeline == id) made.jobs ≡ made.jobs
-      all = filter_all (λ (j : Job). j.pipeline == id) made.jobs (λ j k. eq-eqb j.pipeline id (ap (λ (w : Job). w.pipeline) (is_new j k).job))
+      let none : filter test s.jobs ≡ [] = filter_none test s.jobs (λ j k. let p = i.job_pipeline j k in ne_eqb j.pipeline id (λ e. absurd (omega (arith, i.pipeline_below p.0 p.1.0, p.1.1)))) in
+      let all : filter test made.jobs ≡ made.jobs = filter_all test made.jobs (λ j k. eq-eqb j.pipeline id (ap (λ (w : Job). w.pipeline) (is_new j k).job)) in
+      ap (filter test) jobs_are ∙ (filter-append test s.jobs made.jobs ∙ (λ k. none k ++ all k))
 
   -- its facts
   no_attempts : (j : Job) → Has j made.jobs → attempts_of t j.id ≡ []
   no_attempts j k =
       filter_none (λ (a : Attempt). a.job == j.id) s.attempts (λ a m.
       let w = i.attempt_job a m in
-      let low : w.0.id < s.next.job = i.job_below w.0 w.1.0 in
-      let same : w.0.id ≡ a.job = w.1.1 in
-      let high : first ≤ j.id = (is_new j k).above in
-      ne_eqb a.job j.id (λ e. absurd (omega arith)))
+      ne_eqb a.job j.id (λ e. absurd (omega (arith, i.job_below w.0 w.1.0, w.1.1, (is_new j k).above))))
 
   pub its_facts : facts_of t id ≡ replicate (length made.jobs) no_facts
   its_facts =

@@ -15,7 +15,7 @@ use Rattle.ci_graph.proofs.Queues.{ready_first, ready_more, ready_end, ready_stu
 use Rattle.ci_machine_steps.specs.Prelude.{Status, Effect, Facts, Row, effect, is_open, is_fail, is_bar, status_of_effects, AreRows, facts_at, statuses, no_row, effects_of}
 use Rattle.ci_machine_steps.specs.Prelude.{IsAssignment, row_of, BoardRow, Job, Need, Attempt, State, jobs_of, numbers_of, place_in, pair_of, pairs_of, predecessors_by, graph_of}
 use Rattle.ci_machine_steps.specs.Prelude.{facts_in, facts_of, row_or_none, row_for, rows_of, AreBoard, is_pending, Past, Leads, grants, WasGranted, JoinsOnePipeline}
-use Rattle.ci_machine_steps.specs.Prelude.{HasNoCircle, HasOneBoard, WasPending, MAX_NUMBER}
+use Rattle.ci_machine_steps.specs.Prelude.{HasNoCircle, HasOneBoard, WasPending}
 use Rattle.ci_machine_laws.proofs.PutAll.{map_twice}
 use Rattle.ci_machine_laws.proofs.Reached.{reached}
 use Rattle.ci_machine_laws.proofs.Linked.{Linked}
@@ -118,12 +118,10 @@ module _ (s : State) (pipeline : ℕ) (rise : Rising (λ (j : Job). j.id) 0 s.jo
   pairs_within : AreWithin (length (jobs_of s pipeline)) (pairs_of s pipeline)
   pairs_within = All-from_has (λ (q : ℕ × ℕ). (q.0 < length (jobs_of s pipeline)) × (q.1 < length (jobs_of s pipeline))) (pairs_of s pipeline) (λ q h.
       let p = is_pair q h in
-      let long : length numbers ≡ length (jobs_of s pipeline) = length-map (jobs_of s pipeline) ids in
-      let first : place_in numbers p.need.pred < length numbers = (at_place p.need.pred 0 numbers numbers_rise p.pred).0 in
-      let second : place_in numbers p.need.job < length numbers = (at_place p.need.job 0 numbers numbers_rise p.job).0 in
-      let is_first : place_in numbers p.need.pred ≡ q.0 = ap (λ (r : ℕ × ℕ). r.0) p.places in
-      let is_second : place_in numbers p.need.job ≡ q.1 = ap (λ (r : ℕ × ℕ). r.1) p.places in
-      (subst (λ n. n < length (jobs_of s pipeline)) is_first (omega arith), subst (λ n. n < length (jobs_of s pipeline)) is_second (omega arith)))
+      let within : (n : ℕ) → Has n numbers → place_in numbers n < length (jobs_of s pipeline) = λ n k. omega (arith, (at_place n 0 numbers numbers_rise k).0, length-map (jobs_of s pipeline) ids) in (
+        subst (λ n. n < length (jobs_of s pipeline)) (ap (λ (r : ℕ × ℕ). r.0) p.places) (within p.need.pred p.pred),
+        subst (λ n. n < length (jobs_of s pipeline)) (ap (λ (r : ℕ × ℕ). r.1) p.places) (within p.need.job p.job),
+      ))
 
   -- a pair of places is one of numbers
   by_number : (a b : ℕ) → Contains (pairs_of s pipeline) (a, b) → Contains (by_numbers s.needs) (number_at numbers a, number_at numbers b)
@@ -332,10 +330,8 @@ no_circle_in s rise i is = record {
 rising_few : {A : Type 0} (id : A → ℕ) (low high : ℕ) (xs : List A) → Rising id low xs → Below id high xs → low ≤ high → length xs + low ≤ high
 rising_few id low high [] r b l = omega arith
 rising_few id low high (x ∷ xs) r b l =
-    let first : low ≤ id x = r.0 in
     let below : id x < high = b x (inl refl) in
-    let rest : length xs + (id x + 1) ≤ high = rising_few id (id x + 1) high xs r.1 (λ y h. b y (inr h)) (omega arith) in
-    omega arith
+    omega (arith, r.0, rising_few id (id x + 1) high xs r.1 (λ y h. b y (inr h)) (omega arith))
 
 module _ (law : OneAssignment) (s : State) (rise : Rising (λ (j : Job). j.id) 0 s.jobs) (i : Linked s) (is : Joined s.jobs s.needs) (limit : IsWithinLimit s) where
   parts_long : (pipeline : ℕ) → length (graph_of s pipeline).parts ≡ length (jobs_of s pipeline)
@@ -352,12 +348,8 @@ module _ (law : OneAssignment) (s : State) (rise : Rising (λ (j : Job). j.id) 0
 
   few : (pipeline : ℕ) → length (graph_of s pipeline).parts < 2 ^ 64
   few pipeline =
-      let ids : Job → ℕ = λ j. j.id in
       let its : Job → Bool = λ j. j.pipeline == pipeline in
-      let long : length (graph_of s pipeline).parts ≡ length (jobs_of s pipeline) = parts_long pipeline in
-      let fits : length (jobs_of s pipeline) + 0 ≤ s.next.job = rising_few ids 0 s.next.job (jobs_of s pipeline) (rising_filter ids its 0 s.jobs rise) (λ j h. i.job_below j (has_filter its j s.jobs h).0) (omega arith) in
-      let bound : s.next.job ≤ MAX_NUMBER + 1 = limit in
-      omega arith
+      omega (arith, limit, parts_long pipeline, rising_few (λ (j : Job). j.id) 0 s.next.job (jobs_of s pipeline) (rising_filter (λ (j : Job). j.id) its 0 s.jobs rise) (λ j h. i.job_below j (has_filter its j s.jobs h).0) (omega arith))
 
   one_only : (pipeline : ℕ) (a b : ℕ → Status) → IsAssignment (graph_of s pipeline) (facts_of s pipeline) a → IsAssignment (graph_of s pipeline) (facts_of s pipeline) b
       → (j : ℕ) → j < length (jobs_of s pipeline) → a j ≡ b j

@@ -21,8 +21,8 @@ pub use Rattle.ci_graph_layout.specs.Prelude.{planned}
 pub use Rattle.ci_graph_layout.specs.declared.fault.GraphCode.{GraphCode}
 pub use Rattle.ci_machine.proofs.Filters.{filter_implied, find_implied, filter_all}
 pub use Rattle.ci_machine.proofs.Keyed.{Has, has_filter, map_has, All-from_has, contains_from_has, has_from_contains, has_map, Below, has_find, find-map, Rising, put_has}
-pub use Rattle.ci_machine.proofs.Keyed.{unequal, not_true, has_put, rising_put, rising_filter, filter_has, last_greatest, count_one, find_has, Named, contains_named, same}
-pub use Rattle.ci_machine.proofs.Keyed.{one_at, equal, filter_none, rising_from, less, has_from_all, all_from_has, least_find, named_contains, has_put_other, different}
+pub use Rattle.ci_machine.proofs.Keyed.{unequal, not_true, has_put, rising_put, rising_filter, filter_has, last_greatest, count_one, find_has, Named, contains_named, one_at}
+pub use Rattle.ci_machine.proofs.Keyed.{same, equal, filter_none, rising_from, less, has_from_all, all_from_has, least_find, named_contains, has_put_other, different}
 pub use Rattle.ci_machine.proofs.Tests.{any_has, has_any, any_joined}
 pub use Rattle.ci_machine.specs.Prelude.{Part, JobGraph, part_at, Failed, IsWalk, HasWalk, IsAcyclic, number_at, list_at, times, once, is_among, distinct, IsOrder, IsStuck}
 pub use Rattle.ci_machine.specs.Prelude.{AreWithin, firsts_of, has_pair, IsJobGraph, predecessors_of}
