@@ -40,4 +40,8 @@ passing_fewer p q (z ∷ zs) h x k e f =
 -- a record behind all others
 pub passing_new : {A : Type 0} (id : A → ℕ) (p : A → Bool) (x : A) (n : ℕ) (xs : List A) → Below id n xs → n ≤ id x → passing p xs ≤ passing p (put (λ a b. nat_cmp (id a) (id b)) x xs)
 passing_new id p x n xs below l =
-    rw (put_behind (λ a b. nat_cmp (id a) (id b)) x xs (λ y k. nat_less (id y) (id x) (omega (arith, below y k))), filter-append p xs (x ∷ []), length-append (filter p xs) (filter p (x ∷ []))) (omega arith)
+    rw (
+      put_behind (λ a b. nat_cmp (id a) (id b)) x xs (λ y k. nat_less (id y) (id x) (omega (arith, below y k))),
+      filter-append p xs (x ∷ []),
+      length-append (filter p xs) (filter p (x ∷ [])),
+    ) (omega arith)

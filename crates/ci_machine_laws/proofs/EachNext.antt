@@ -134,7 +134,8 @@ module _ (s : State) (board : List BoardRow) (Q : Answer → State → Type 0) w
       let is_job = has_filter (is_pending board) at.0 s.jobs first.0 in
       let both = and_parts (may_run runner (queued s at.0).project at.0.options.tags) (resource_free (groups_in s board) (queued s at.0)) first.1 in
       cond_both (nat_lt MAX_NUMBER s.next.attempt) (refused M15) (granted runner q variables s.next.attempt now seed) P (λ _. refuses _ next M15 tt)
-      (λ _. next.granted token refl runner at.0 q variables now seed found offered (has_find (λ (r : Runner). bytes_eq r.token token) runner s.runners found).0 is_job.0 is_job.1 at.1.0 (subst (λ (w : QueuedJob). resource_free (groups_in s board) w ≡ true) at.1.0 both.1))
+      (λ _. next.granted token refl runner at.0 q variables now seed found offered
+      (has_find (λ (r : Runner). bytes_eq r.token token) runner s.runners found).0 is_job.0 is_job.1 at.1.0 (subst (λ (w : QueuedJob). resource_free (groups_in s board) w ≡ true) at.1.0 both.1))
 
   asks : (token : List ℕ) → Next (AskJob token) → (now : ℕ) (seed : Seed) (found : Option Runner) → runner_with s token ≡ found
       → P (ask_job found (offer s board found) (offered_variables s (offer s board found)) s.next.attempt now seed)
@@ -177,7 +178,8 @@ module _ (s : State) (board : List BoardRow) (Q : Answer → State → Type 0) w
         let has = has_find (λ (b : Attempt). b.id == part.attempt) a s.attempts found in
         let size = length (trace_of s part.attempt) in
         cond_both (bytes_eq a.token part.token) _ (refused M5) P
-        (λ _. grows a has.0 (eqb-true a.id part.attempt has.1) now (accepted a l.limit now size part.from (length part.bytes)) (leased_live a l.limit now (renewed a l.limit now) refl (size_after size part.from (length part.bytes))))
+        (λ _. grows a has.0 (eqb-true a.id part.attempt has.1) now (accepted a l.limit now size part.from (length part.bytes))
+        (leased_live a l.limit now (renewed a l.limit now) refl (size_after size part.from (length part.bytes))))
         (λ _. refuses _ next M5 tt)
 
   prunes : (before : ℕ) → Next (PruneOne before) → (found : Option Pipeline) → prunable_in s board before ≡ found → P (prune found (jobs_in s found) s.attempts)
@@ -189,25 +191,32 @@ module _ (s : State) (board : List BoardRow) (Q : Answer → State → Type 0) w
   does (AddRunner new) next now seed plan is = subst P (sym is) (runners (project_named s new.project) new next seed)
   does (PauseRunner pause) next now seed plan is = subst P (sym is) (pauses pause next (runner_at s pause.runner) refl)
   does (SetFile new) next now seed plan is =
-      sets s P (refuses _ next) (faults _ next) new.project new.text plan (λ project c has. next.aside _ (refl, λ n. refl, refl, false≢true) _ (file_stands project (Some new.text) has)) (of_asked s new.token new.project) (is_asked s new.token new.project) is
+      sets s P (refuses _ next) (faults _ next) new.project new.text plan
+      (λ project c has. next.aside _ (refl, λ n. refl, refl, false≢true) _ (file_stands project (Some new.text) has)) (of_asked s new.token new.project) (is_asked s new.token new.project) is
   does (SetVariable new) next now seed plan is =
-      subst P (sym is) (puts s P (refuses _ next) (faults _ next) new.project (project_variables s new.project) new (λ project. next.aside _ (refl, λ n. refl, refl, false≢true) _ (variables_are _)) (of_asked s new.token new.project) (is_asked s new.token new.project))
+      subst P (sym is) (puts s P (refuses _ next) (faults _ next) new.project (project_variables s new.project) new
+      (λ project. next.aside _ (refl, λ n. refl, refl, false≢true) _ (variables_are _)) (of_asked s new.token new.project) (is_asked s new.token new.project))
   does (DeleteVariable query) next now seed plan is =
-      subst P (sym is) (removes s P (refuses _ next) (faults _ next) query.project (λ v. next.aside _ (refl, λ n. refl, refl, false≢true) _ (variables_are _)) (variable_at s query.project query.key) (of_asked s query.token query.project) (is_asked s query.token query.project))
+      subst P (sym is) (removes s P (refuses _ next) (faults _ next) query.project
+      (λ v. next.aside _ (refl, λ n. refl, refl, false≢true) _ (variables_are _)) (variable_at s query.project query.key) (of_asked s query.token query.project) (is_asked s query.token query.project))
   does (SetMode new) next now seed plan is =
-      subst P (sym is) (sets_mode s P (refuses _ next) (faults _ next) new.project new (λ m. next.aside _ (refl, λ n. refl, refl, false≢true) _ (modes_are new refl _)) (λ n name. next.aside _ (refl, λ n. refl, refl, false≢true) _ (modes_are new refl _))
+      subst P (sym is) (sets_mode s P (refuses _ next) (faults _ next) new.project new
+      (λ m. next.aside _ (refl, λ n. refl, refl, false≢true) _ (modes_are new refl _)) (λ n name. next.aside _ (refl, λ n. refl, refl, false≢true) _ (modes_are new refl _))
       (of_asked s new.token new.project) (is_asked s new.token new.project))
   does (ShowMode query) next now seed plan is =
       let order = order_of s.modes query.project query.group in
-      subst P (sym is) (tells_mode s P (refuses _ next) (faults _ next) query.project query.group order (steady _ next (mode_told query.group order) refl refl refl) (of_asked s query.token query.project) (is_asked s query.token query.project))
+      subst P (sym is) (tells_mode s P (refuses _ next) (faults _ next) query.project query.group order
+      (steady _ next (mode_told query.group order) refl refl refl) (of_asked s query.token query.project) (is_asked s query.token query.project))
   does (CreatePipeline new) next now seed plan is =
       creates s P (refuses _ next) (faults _ next) new now plan (λ project text laid claims rows asked has named file lays fits.
-      subst (Q _) (sym (after_creation s.next.job (creation s.next.pipeline s.next.job new (given_in s new) now laid) s)) (next.pipeline new now refl project text laid claims rows asked has named file lays fits))
+      subst (Q _) (sym (after_creation s.next.job (creation s.next.pipeline s.next.job new (given_in s new) now laid) s))
+      (next.pipeline new now refl project text laid claims rows asked has named file lays fits))
       (of_asked s new.token new.project) refl (is_asked s new.token new.project) is
   does (ShowPipeline query) next now seed plan is =
       let n = query.pipeline in
       let claims = claims_in s board n in
-      subst P (sym is) (shows s P (refuses _ next) (faults _ next) claims (jobs_of s n) (facts_of s n) (rows_of s board n) (λ p. steady _ next (pipeline_shown p claims (jobs_of s n) (facts_of s n) (rows_of s board n)).0 refl refl refl) (found_pipeline s query)
+      subst P (sym is) (shows s P (refuses _ next) (faults _ next) claims (jobs_of s n) (facts_of s n) (rows_of s board n)
+      (λ p. steady _ next (pipeline_shown p claims (jobs_of s n) (facts_of s n) (rows_of s board n)).0 refl refl refl) (found_pipeline s query)
       (pipeline_by s query.project (pipeline_at s n) (of_asked s query.token query.project) (is_asked s query.token query.project)))
   does (AskJob token) next now seed plan is = subst P (sym is) (asks token next now seed (runner_with s token) refl)
   does (UpdateJob update) next now seed plan is = subst P (sym is) (updates update next now (attempt_at s update.attempt) refl)
@@ -216,7 +225,8 @@ module _ (s : State) (board : List BoardRow) (Q : Answer → State → Type 0) w
       let job = job_at s query.job in
       let status = status_for board query.job in
       let claims = claims_in s board (pipeline_or_none job) in
-      subst P (sym is) (asked (λ r. P (shown claims query.project r status)) (project_with s query.token) job (pipeline_of s job) query (λ j _. steady _ next (job_shown claims query.project j status).0 refl refl refl) (refuses _ next))
+      subst P (sym is) (asked (λ r. P (shown claims query.project r status)) (project_with s query.token) job (pipeline_of s job) query
+      (λ j _. steady _ next (job_shown claims query.project j status).0 refl refl refl) (refuses _ next))
   does (ShowTrace query) next now seed plan is =
       let job = job_at s query.job in
       let trace = trace_if_any s (last_attempt s query.job) in
@@ -224,10 +234,12 @@ module _ (s : State) (board : List BoardRow) (Q : Answer → State → Type 0) w
   does (Read query) next now seed plan is = subst P (sym is) (of_read P (refuses _ next) (λ body. steady _ next (fine body) refl refl refl) s board query)
   does (Play query) next now seed plan is = acts_on s board P (refuses _ next) (acts_by _ next) play (plays s) is_playable M10 tt query plan is
   does (CancelJob query) next now seed plan is =
-      acts_on s board P (refuses _ next) (acts_by _ next) (λ j. cancel s.attempts (j ∷ [])) (λ j has. cancels s (j ∷ []) (λ w k. ⊎_elim (λ e. subst (λ (v : Job). Has v s.jobs) (sym e) has) (λ m. absurd m) k)) is_cancellable M12 tt query plan is
+      acts_on s board P (refuses _ next) (acts_by _ next) (λ j. cancel s.attempts (j ∷ []))
+      (λ j has. cancels s (j ∷ []) (λ w k. ⊎_elim (λ e. subst (λ (v : Job). Has v s.jobs) (sym e) has) (λ m. absurd m) k)) is_cancellable M12 tt query plan is
   does (RetryJob query) next now seed plan is = acts_on s board P (refuses _ next) (acts_by _ next) (λ j. retry (attempts_of s j.id) j) (retries s) is_retryable M11 tt query plan is
   does (CancelPipeline query) next now seed plan is =
-      cancels_by s board P (refuses _ next) (acts_by _ next) plan (found_pipeline s query) (pipeline_by s query.project (pipeline_at s query.pipeline) (of_asked s query.token query.project) (is_asked s query.token query.project)) is
+      cancels_by s board P (refuses _ next) (acts_by _ next) plan
+      (found_pipeline s query) (pipeline_by s query.project (pipeline_at s query.pipeline) (of_asked s query.token query.project) (is_asked s query.token query.project)) is
   does (PruneOne before) next now seed plan is = subst P (sym is) (prunes before next (prunable_in s board before) refl)
 
   swept : (now : ℕ) → EachStep s board Event.Sweep (gone s) Q → (o : Option Lease) → first_due (leases s) now ≡ o → (redundant : Option Pipeline)

@@ -349,7 +349,12 @@ module _ (law : OneAssignment) (s : State) (rise : Rising (λ (j : Job). j.id) 0
   few : (pipeline : ℕ) → length (graph_of s pipeline).parts < 2 ^ 64
   few pipeline =
       let its : Job → Bool = λ j. j.pipeline == pipeline in
-      omega (arith, limit, parts_long pipeline, rising_few (λ (j : Job). j.id) 0 s.next.job (jobs_of s pipeline) (rising_filter (λ (j : Job). j.id) its 0 s.jobs rise) (λ j h. i.job_below j (has_filter its j s.jobs h).0) (omega arith))
+      omega (
+        arith,
+        limit,
+        parts_long pipeline,
+        rising_few (λ (j : Job). j.id) 0 s.next.job (jobs_of s pipeline) (rising_filter (λ (j : Job). j.id) its 0 s.jobs rise) (λ j h. i.job_below j (has_filter its j s.jobs h).0) (omega arith),
+      )
 
   one_only : (pipeline : ℕ) (a b : ℕ → Status) → IsAssignment (graph_of s pipeline) (facts_of s pipeline) a → IsAssignment (graph_of s pipeline) (facts_of s pipeline) b
       → (j : ℕ) → j < length (jobs_of s pipeline) → a j ≡ b j

@@ -394,7 +394,8 @@ ends_again h p s l step first k end same =
     (said.0, while_there (contains_named (λ (a : Attempt). a.id) u.attempt r.attempts (i.attempt, (i.has, i.number))) (said.1 ∙ sym end.answered)))
     (λ w.
     let missing : (b : Attempt) → Has b r.attempts → b.id ≡ u.attempt → ⊥ = λ b m e. w.2.1.1 b m (e ∙ sym w.1) in
-    let said = says_so r s u p.now p.seed p.answer its (refusal M5) (ap (λ o. update_job (option_map (lease_of r) o) u p.now) (found_none (λ (b : Attempt). b.id == u.attempt) r.attempts (λ b m. ne_eqb b.id u.attempt (missing b m)))) in
+    let said = says_so r s u p.now p.seed p.answer its (refusal M5) (ap (λ o. update_job (option_map (lease_of r) o) u p.now)
+    (found_none (λ (b : Attempt). b.id == u.attempt) r.attempts (λ b m. ne_eqb b.id u.attempt (missing b m)))) in
     (said.0, once_pruned w.0 w.1 w.2.0 (λ c. let n = named_contains (λ (a : Attempt). a.id) u.attempt r.attempts c in missing n.0 n.1.0 n.1.1) said.1))
     (stands_still h r l first k end)
 

@@ -524,7 +524,11 @@ so_many law now h s t (d ∷ did) leads one sweeps something =
     let line : Past = record { before = s; event = Event.Sweep; now = now; seed = sweeps.1; answer = Answer.Swept d } in
     let leads_next : Leads (line ∷ h) next = (leads, sweeps.2) in
     let its = one_board law (line ∷ h) next leads_next in
-    omega (arith, leaves_less law h s leads now sweeps.1 d next one its sweeps.2 (something d (inl refl)), so_many law now (line ∷ h) next t did leads_next its sweeps.3 (λ e k. something e (inr k)))
+    omega (
+      arith,
+      leaves_less law h s leads now sweeps.1 d next one its sweeps.2 (something d (inl refl)),
+      so_many law now (line ∷ h) next t did leads_next its sweeps.3 (λ e k. something e (inr k)),
+    )
 
 nothing_changes : (o : Option Lease) (redundant : Option Pipeline) (attempts : List Attempt) (jobs : List Job) → (sweep o redundant attempts jobs).0 ≡ Swept.Nothing → (sweep o redundant attempts jobs).1 ≡ []
 nothing_changes None None attempts jobs e = refl
