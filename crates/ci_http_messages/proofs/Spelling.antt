@@ -1,5 +1,5 @@
 -- Each route's operation names the path that asks for it.
-use Rattle.std.proofs.Common.{◌≡◌, ℕ, List, [], ◌∷◌, ◌++◌, Option, Some, None, Bool, refl, sym, ap, subst, ◌∙◌, nat_eq, ◌==◌, option_and_then, unwrap_or, decimal, map}
+use Rattle.std.proofs.Common.{◌≡◌, ℕ, List, [], ◌∷◌, ◌++◌, Option, Some, None, Bool, refl, sym, ap, subst, ◌∙◌, nat_eq, ◌==◌, option_and_then, unwrap_or, decimal, map, rules}
 use Rattle.std.specs.List.{find}
 use Rattle.std.specs.Cmp.Lexicographic.{pointwise}
 use Rattle.std.proofs.lemmas.Slice.Eq.{bytes_eq-Decides}
@@ -107,7 +107,7 @@ rows-named (r ∷ rs) n ss = one-named r ss (routes_of rs ss) n.0 (rows-named rs
 
 all-name : AllName routes
 unfolding routes
-all-name = (λ vs. refl, (λ vs. refl, (λ vs. refl, (λ vs. refl, (λ vs. refl, (λ vs. refl, (λ vs. refl, (λ vs. refl, (λ vs. refl, (λ vs. refl, (λ vs. refl, (λ vs. refl, (λ vs. refl, (λ vs. refl, (λ vs. refl, (λ vs. refl, (λ vs. refl, (λ vs. refl, (λ vs. refl, (λ vs. refl, (λ vs. refl, (λ vs. refl, (λ vs. refl, tt)))))))))))))))))))))))
+all-name = search rules
 
 path-named : (path : List ℕ) → AllNamed path (routes_at path)
 path-named [] = tt

@@ -240,12 +240,10 @@ job_in s n project = within (Found s) (job_at s n) (pipeline_of s (job_at s n)) 
 
 is_told : (s : State) (board : List BoardRow) (named : ℕ) (r : Result Project Code) → Asked s named r → (what : Subject) → IsTold (read_of s board r what)
 is_told s board named (Err code) asked what = asked
-is_told s board named (Ok p) asked Subject.Project = tt
-is_told s board named (Ok p) asked Subject.Pipelines = tt
 is_told s board named (Ok p) asked (Subject.Jobs n) = jobs_told s board p.id (pipeline_within (pipeline_at s n) p.id) (pipeline_in (pipeline_at s n) p.id)
 is_told s board named (Ok p) asked (Subject.Attempts n) = attempts_told s (job_within (job_at s n) (pipeline_of s (job_at s n)) p.id) (job_in s n p.id)
 is_told s board named (Ok p) asked (Subject.Trace n attempt) = trace_told s attempt (job_within (job_at s n) (pipeline_of s (job_at s n)) p.id) (job_in s n p.id)
-is_told s board named (Ok p) asked Subject.ResourceGroups = tt
+is_told s board named (Ok p) asked _ = tt
 
 module _ (P : Plan → Type 0) (of_code : (c : Code) → IsMachineCode c → P (refused c)) (h : (body : Body) → P (fine body, [])) where
   tells : (r : Result Body Code) → IsTold r → P (told r)
