@@ -1,8 +1,7 @@
 -- Changes one after the other, and what changes of indexes leave as it was.
 use Rattle.std.proofs.Common.{◌≡◌, ℕ, ◌+◌, ◌<◌, ◌++◌, List, [], ◌∷◌, length, take, slice_index_or, refl, sym, ap, ◌∙◌}
 use Rattle.std.proofs.lemmas.List.{take_more}
-use Rattle.ci_machine_steps.specs.Prelude.{IndexChange, Hold, Free, Close, RowChange, BoardRow, Kept, row_cmp, put_rows, indexed, indexed_all, State, put, changed, applied}
-use Rattle.ci_machine.specs.declared.change.IndexChange.TheVariants.{Open}
+use Rattle.ci_machine_steps.specs.Prelude.{IndexChange, Hold, RowChange, BoardRow, Kept, row_cmp, put_rows, indexed, indexed_all, State, put, changed, applied}
 use Rattle.ci_machine_steps.proofs.Created.{applied_append}
 
 -- the state after one change more of a list
@@ -22,13 +21,9 @@ rows_more rs i d board within = sym (ap (λ (l : List BoardRow). put_rows l boar
 pub state_stays : (cs : List IndexChange) (k : Kept) → (indexed_all cs k).state ≡ k.state
 state_stays [] k = refl
 state_stays (Hold h ∷ cs) k = state_stays cs (indexed (Hold h) k)
-state_stays (Free p g ∷ cs) k = state_stays cs (indexed (Free p g) k)
-state_stays (Open u ∷ cs) k = state_stays cs (indexed (Open u) k)
-state_stays (Close n ∷ cs) k = state_stays cs (indexed (Close n) k)
+state_stays (c ∷ cs) k = state_stays cs (indexed c k)
 
 pub board_stays : (cs : List IndexChange) (k : Kept) → (indexed_all cs k).board ≡ k.board
 board_stays [] k = refl
 board_stays (Hold h ∷ cs) k = board_stays cs (indexed (Hold h) k)
-board_stays (Free p g ∷ cs) k = board_stays cs (indexed (Free p g) k)
-board_stays (Open u ∷ cs) k = board_stays cs (indexed (Open u) k)
-board_stays (Close n ∷ cs) k = board_stays cs (indexed (Close n) k)
+board_stays (c ∷ cs) k = board_stays cs (indexed c k)

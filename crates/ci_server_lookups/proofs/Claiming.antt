@@ -3,15 +3,16 @@ use Rattle.std.proofs.Common.{◌≡◌, ℕ, ◌+◌, ◌<◌, ◌&&◌, ◌==�
 use Rattle.std.proofs.Common.{ap, subst, ◌∙◌, inl, ⊎_elim, eq-eqb}
 use Rattle.std.specs.List.{list_any}
 use Rattle.std.specs.Str.{bytes_eq}
-use Rattle.std.proofs.lemmas.Bool.{cases_Bool, both_ways, and_parts}
+use Rattle.std.proofs.lemmas.Bool.{and_parts}
 use Rattle.std.proofs.lemmas.List.{take_more, flat_map_more, append_assoc}
 use Rattle.std.proofs.lemmas.Slice.Eq.{bytes_eq-Decides}
 use Rattle.ci_machine_steps.specs.Prelude.{Claim, Holder, Job, holds, claims_group, is_free, Groups, order_of, is_behind, held_claim, claims_ahead, claims_on}
 use Rattle.ci_machine.proofs.Claims.{free_append, free_held, free_ahead}
 use Rattle.ci_machine.proofs.Keyed.{Has, has_from_all, All-from_has}
-use Rattle.ci_machine.proofs.Tests.{any_has, has_any}
+use Rattle.ci_machine.proofs.Tests.{any_has, has_any, any_joined}
 use Rattle.ci_server_lookups.specs.Prelude.{is_unheld, HoldAlike, FreeAlike, claim_if, ahead_for}
-use Rattle.ci_server_lookups.proofs.Holds.{has_flat, flat_has}
+use Rattle.ci_server_lookups.proofs.Holds.{has_flat}
+use Rattle.ci_server_lookups.proofs.OpenRows.{same_test}
 
 -- ---- of one group
 
@@ -37,11 +38,6 @@ free_unless g n project group behind e is =
     ∙ sym (free_is g n project (Some group) ∙ ap (λ b. not b && is_free (claims_ahead g n) project (Some group)) e))
 
 -- ---- of jobs
-
--- what one holds where the other does
-both_alike : (a b : Bool) → (a ≡ true → b ≡ true) → (b ≡ true → a ≡ true) → a ≡ b
-both_alike a b f h =
-    ⊎_elim (λ t. t ∙ sym (f t)) (λ n. n ∙ ⊎_elim (λ t. absurd (both_ways a n (h t))) (λ m. sym m) (cases_Bool b)) (cases_Bool a)
 
 module _ (g : Groups) (n project : ℕ) where
   abbrev behind : List ℕ → Bool
@@ -83,12 +79,13 @@ module _ (g : Groups) (n project : ℕ) where
     alike_for : (j : Job) (group : Option (List ℕ)) → Has j jobs → j.options.resource_group ≡ group → is_free gathered project group ≡ is_free (claims_ahead g n) project group
     alike_for j None k its = refl
     alike_for j (Some group) k its =
-        ap not (both_alike (list_any (claims_group project group) gathered) (behind group)
+        let claims = claims_group project group in
+        ap not (same_test (list_any claims gathered) (behind group)
         (λ e.
-        let w = any_has (claims_group project group) gathered e in
-        let from = flat_has for_job w.0 jobs w.1.0 in
-        found_behind from.0.options.resource_group group w.0 from.1.1 w.1.1)
-        (λ e. has_any (claims_group project group) (claim group) gathered (has_flat for_job (claim group) j jobs k (behind_found j.options.resource_group group its e)) (own_claim group)))
+        let from = any_has (λ i. list_any claims (for_job i)) jobs (any_joined claims for_job jobs ∙ e) in
+        let w = any_has claims (for_job from.0) from.1.1 in
+        found_behind from.0.options.resource_group group w.0 w.1.0 w.1.1)
+        (λ e. has_any claims (claim group) gathered (has_flat for_job (claim group) j jobs k (behind_found j.options.resource_group group its e)) (own_claim group)))
         ∙ sym (free_ahead g n project group)
 
     pub gathered_ahead : FreeAlike gathered (claims_ahead g n) project jobs

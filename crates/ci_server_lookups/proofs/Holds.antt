@@ -2,23 +2,19 @@
 use Rattle.std.proofs.Common.{◌≡◌, ◌⊎◌, ℕ, ◌+◌, ◌<◌, ◌||◌, cond, not, Bool, true, false, List, [], ◌∷◌, ◌++◌, length, take, find, flat_map, Contains, Option, Some, None, is_some}
 use Rattle.std.proofs.Common.{option_to_list, slice_index_or, refl, sym, ap, subst, ◌∙◌, inl, inr, ⊎_elim}
 use Rattle.std.specs.List.{list_any}
-use Rattle.std.proofs.lemmas.Bool.{cases_Bool, both_ways}
+use Rattle.std.proofs.lemmas.Bool.{cond_both, both_ways}
 use Rattle.std.proofs.lemmas.List.{append-nil}
 use Rattle.std.proofs.lemmas.List.Elements.{filter_more}
 use Rattle.ci_machine_steps.specs.Prelude.{Holder, Job, State, holds, holders, holder_at, AreHolders, IndexChange}
 use Rattle.ci_machine.proofs.Keyed.{Has, has_find, has_from_all, has_from_contains, All-from_has}
-use Rattle.ci_machine.proofs.Tests.{any_has, has_any}
+use Rattle.ci_machine.proofs.Tests.{any_has, has_any, any_joined}
 use Rattle.ci_server_lookups.specs.Prelude.{is_unheld, HoldAlike, holder_for, frees, still_held}
+use Rattle.ci_server_lookups.proofs.OpenRows.{same_test}
 
 -- ---- lists
 
 one_way : {A : Type 0} (p : A → Bool) (xs ys : List A) → ((x : A) → Has x xs → p x ≡ true → Has x ys) → list_any p xs ≡ true → list_any p ys ≡ true
 one_way p xs ys f e = let w = any_has p xs e in has_any p w.0 ys (f w.0 w.1.0 w.1.1) w.1.1
-
--- some element passes in the one list where one does in the other
-pub same_any : {A : Type 0} (p : A → Bool) (xs ys : List A) → (list_any p xs ≡ true → list_any p ys ≡ true) → (list_any p ys ≡ true → list_any p xs ≡ true) → list_any p xs ≡ list_any p ys
-same_any p xs ys f g =
-    ⊎_elim (λ t. t ∙ sym (f t)) (λ n. n ∙ ⊎_elim (λ t. absurd (both_ways (list_any p xs) n (g t))) (λ m. sym m) (cases_Bool (list_any p ys))) (cases_Bool (list_any p xs))
 
 has_left : {A : Type 0} (x : A) (xs ys : List A) → Has x xs → Has x (xs ++ ys)
 has_left x [] ys h = absurd h
@@ -28,53 +24,39 @@ has_right : {A : Type 0} (x : A) (xs ys : List A) → Has x ys → Has x (xs ++ 
 has_right x [] ys h = h
 has_right x (y ∷ xs) ys h = inr (has_right x xs ys h)
 
-either_side : {A : Type 0} (x : A) (xs ys : List A) → Has x (xs ++ ys) → Has x xs ⊎ Has x ys
-either_side x [] ys h = inr h
-either_side x (y ∷ xs) ys h = ⊎_elim (λ e. inl (inl e)) (λ m. ⊎_elim (λ k. inl (inr k)) (λ k. inr k) (either_side x xs ys m)) h
-
 pub has_flat : {A B : Type 0} (f : A → List B) (y : B) (x : A) (xs : List A) → Has x xs → Has y (f x) → Has y (flat_map f xs)
 has_flat f y x [] h k = absurd h
 has_flat f y x (z ∷ zs) h k =
     ⊎_elim (λ e. has_left y (f z) (flat_map f zs) (subst (λ (w : _). Has y (f w)) e k)) (λ m. has_right y (f z) (flat_map f zs) (has_flat f y x zs m k)) h
 
-pub flat_has : {A B : Type 0} (f : A → List B) (y : B) (xs : List A) → Has y (flat_map f xs) → (x : A) × (Has x xs × Has y (f x))
-flat_has f y [] h = absurd h
-flat_has f y (z ∷ zs) h =
-    ⊎_elim (λ k. (z, (inl refl, k))) (λ m. let w = flat_has f y zs m in (w.0, (inr w.1.0, w.1.1))) (either_side y (f z) (flat_map f zs) h)
-
 -- ---- the rows, and the holders of the state
 
 -- the rows that are kept hold the same groups as the state's live attempts
+rows_alike : (s : State) (rows : List Holder) → AreHolders s rows → (p : Holder → Bool) → list_any p rows ≡ list_any p (holders s)
+rows_alike s rows are p =
+    same_test (list_any p rows) (list_any p (holders s))
+    (one_way p rows (holders s) (λ h k _. has_from_contains h (holders s) (has_from_all (Contains (holders s)) h rows are.held k)))
+    (one_way p (holders s) rows (λ h k _. has_from_contains h rows (has_from_all (Contains rows) h (holders s) are.all k)))
+
 pub kept_alike : (s : State) (rows : List Holder) → AreHolders s rows → (project : ℕ) (group : Option (List ℕ)) → is_unheld rows project group ≡ is_unheld (holders s) project group
 kept_alike s rows are project None = refl
-kept_alike s rows are project (Some group) =
-    let p = holds project group in
-    ap not (same_any p rows (holders s)
-    (one_way p rows (holders s) (λ h k _. has_from_contains h (holders s) (has_from_all (Contains (holders s)) h rows are.held k)))
-    (one_way p (holders s) rows (λ h k _. has_from_contains h rows (has_from_all (Contains rows) h (holders s) are.all k))))
+kept_alike s rows are project (Some group) = ap not (rows_alike s rows are (holds project group))
 
-found_any : {A : Type 0} (p : A → Bool) (x : A) (xs : List A) → find p xs ≡ Some x → list_any p xs ≡ true
-found_any p x xs e = let w = has_find p x xs e in has_any p x xs w.0 w.1
-
-none_any : {A : Type 0} (p : A → Bool) (xs : List A) → find p xs ≡ None → list_any p xs ≡ false
-none_any p [] e = refl
-none_any p (x ∷ xs) e =
-    ⊎_elim (λ t. absurd (let bad : ◌≡◌ {A = Option _} (Some x) None = sym (ap (λ b. cond b (Some x) (find p xs)) t) ∙ e in cc))
-    (λ f. ap (λ b. b || list_any p xs) f ∙ none_any p xs (sym (ap (λ b. cond b (Some x) (find p xs)) f) ∙ e)) (cases_Bool (p x))
+is_found : {A : Type 0} (p : A → Bool) (xs : List A) → is_some (find p xs) ≡ list_any p xs
+is_found p [] = refl
+is_found p (x ∷ xs) =
+    cond_both (p x) (Some x) (find p xs) (λ o. is_some o ≡ (p x || list_any p xs))
+    (λ t. sym (ap (λ b. b || list_any p xs) t))
+    (λ f. is_found p xs ∙ sym (ap (λ b. b || list_any p xs) f))
 
 -- what is looked up is there where one passes
 pub any_if_some : {A : Type 0} (p : A → Bool) (xs : List A) (o : Option A) → o ≡ find p xs → is_some o ≡ list_any p xs
-any_if_some p xs None e = sym (none_any p xs (sym e))
-any_if_some p xs (Some x) e = sym (found_any p x xs (sym e))
+any_if_some p xs o e = ap is_some e ∙ is_found p xs
 
 -- a group is held where there is a row of it
 pub held_by_row : (s : State) (rows : List Holder) → AreHolders s rows → (project : ℕ) (group : List ℕ) (o : Option Holder) → o ≡ holder_at project group rows
     → is_some o ≡ list_any (holds project group) (holders s)
-held_by_row s rows are project group o its =
-    any_if_some (holds project group) rows o its
-    ∙ same_any (holds project group) rows (holders s)
-    (one_way (holds project group) rows (holders s) (λ h k _. has_from_contains h (holders s) (has_from_all (Contains (holders s)) h rows are.held k)))
-    (one_way (holds project group) (holders s) rows (λ h k _. has_from_contains h rows (has_from_all (Contains rows) h (holders s) are.all k)))
+held_by_row s rows are project group o its = any_if_some (holds project group) rows o its ∙ rows_alike s rows are (holds project group)
 
 -- ---- the holders of jobs' groups
 
@@ -102,7 +84,7 @@ module _ (project : ℕ) (rows : List Holder) (jobs : List Job) where
   back j group k its e = go (holder_at project group rows) refl
     where
       go : (o : Option Holder) → holder_at project group rows ≡ o → list_any (holds project group) gathered ≡ true
-      go None is = absurd (both_ways (list_any (holds project group) rows) (none_any (holds project group) rows is) e)
+      go None is = absurd (both_ways (list_any (holds project group) rows) (sym (any_if_some (holds project group) rows None (sym is))) e)
       go (Some h) is =
           let there = has_find (holds project group) h rows is in
           has_any (holds project group) h gathered
@@ -112,8 +94,12 @@ module _ (project : ℕ) (rows : List Holder) (jobs : List Job) where
   alike_for : (j : Job) (group : Option (List ℕ)) → Has j jobs → j.options.resource_group ≡ group → is_unheld gathered project group ≡ is_unheld rows project group
   alike_for j None k its = refl
   alike_for j (Some group) k its =
-      ap not (same_any (holds project group) gathered rows
-      (one_way (holds project group) gathered rows (λ h m _. let w = flat_has for_job h jobs m in found_there project rows w.0.options.resource_group h w.1.1))
+      let its_group = holds project group in
+      ap not (same_test (list_any its_group gathered) (list_any its_group rows)
+      (λ e.
+      let from = any_has (λ i. list_any its_group (for_job i)) jobs (any_joined its_group for_job jobs ∙ e) in
+      let w = any_has its_group (for_job from.0) from.1.1 in
+      has_any its_group w.0 rows (found_there project rows from.0.options.resource_group w.0 w.1.0) w.1.1)
       (back j group k its))
 
 -- the holders that are found for jobs, one after the other

@@ -99,15 +99,9 @@ module _ {T : Type 0} (honest : T → Type 0) (holds : T → Kept → Type 0) (l
     left = load.left;
     answered = λ h k held. subst (λ z. IfOk z (Q k)) went (load.answered h k held);
   }
-  carries {Q = Q} f b c first (Err Memory) load went failed = record {
+  carries {Q = Q} f b c first (Err e) load went failed = record {
     was_honest = load.was_honest;
     kept = λ h k held. subst (λ z. UnlessBroken z (holds c k)) failed (load.kept h k held);
-    left = load.left;
-    answered = λ h k held. tt;
-  }
-  carries {Q = Q} f b c first (Err Broken) load went failed = record {
-    was_honest = load.was_honest;
-    kept = λ h k held. tt;
     left = load.left;
     answered = λ h k held. tt;
   }
@@ -115,25 +109,12 @@ module _ {T : Type 0} (honest : T → Type 0) (holds : T → Kept → Type 0) (l
   -- an answer that is made of a load's
   pub gives : {A B : Type 0} {P : Kept → A → Type 0} (R : Kept → B → Type 0) (a b : T) (first : Result A StoreFault) (x : A) (y : B) → first ≡ Ok x → LoadsBy honest holds leaves a b first P
       → ((k : Kept) → P k x → R k y) → LoadsBy honest holds leaves a b (Ok y) R
-  gives {P = P} R a b first x y is load then = record {
-    was_honest = load.was_honest;
-    kept = λ h k held. subst (λ f. UnlessBroken f (holds b k)) is (load.kept h k held);
-    left = load.left;
-    answered = λ h k held. then k (subst (λ f. IfOk f (P k)) is (load.answered h k held));
-  }
+  gives R a b first x y is load then = says R a b (Ok y) (ends a b first x (Ok y) is load) (λ k z e p. let same : y ≡ z = cc in subst (R k) same (then k p))
 
   -- two loads that went well, one after the other, and what comes of both
   pub so : {A B C : Type 0} {P : Kept → A → Type 0} {Q : Kept → B → Type 0} (R : Kept → C → Type 0) (a b c : T) (first : Result A StoreFault) (x : A) (second : Result B StoreFault) (y : B) (z : C)
       → first ≡ Ok x → second ≡ Ok y → LoadsBy honest holds leaves a b first P → LoadsBy honest holds leaves b c second Q → ((k : Kept) → P k x → Q k y → R k z) → LoadsBy honest holds leaves a c (Ok z) R
-  so {P = P} {Q = Q} R a b c first x second y z is was load more then = record {
-    was_honest = λ h. load.was_honest (more.was_honest h);
-    kept = λ h k held. subst (λ f. UnlessBroken f (holds c k)) was (more.kept h k (mid h k held));
-    left = λ h k held. more.left h k (mid h k held);
-    answered = λ h k held. then k (subst (λ f. IfOk f (P k)) is (load.answered (more.was_honest h) k held)) (subst (λ f. IfOk f (Q k)) was (more.answered h k (mid h k held)));
-  }
-    where
-      mid : honest c → (k : Kept) → holds a k → holds b k
-      mid h k held = subst (λ f. UnlessBroken f (holds b k)) is (load.kept (more.was_honest h) k held)
+  so R a b c first x second y z is was load more then = gives R a c second y z was (with_both a b c first x second is load more) (λ k w. then k w.0 w.1)
 
   -- what two clauses say of one load
   pub loads_both : {A : Type 0} {P Q : Kept → A → Type 0} (a b : T) (r : Result A StoreFault) → LoadsBy honest holds leaves a b r P → LoadsBy honest holds leaves a b r Q → LoadsBy honest holds leaves a b r (λ k y. P k y × Q k y)
@@ -152,3 +133,35 @@ module _ {T : Type 0} (honest : T → Type 0) (holds : T → Kept → Type 0) (l
     left = λ h k held. load.left h k held.0;
     answered = λ h k held. load.answered h k held.0;
   }
+
+-- ---- the same, by what is known of each load
+
+module _ {T : Type 0} {honest : T → Type 0} {holds : T → Kept → Type 0} {leaves : T → Kept → Kept → Type 0} {A : Type 0} {P : Kept → A → Type 0} {a b : T} {first : Result A StoreFault} where
+  pub if_kept : LoadsBy honest holds leaves a b first P → LoadsBy honest (HoldsKept holds) leaves a b first P
+  if_kept load = of_kept honest holds leaves a b first load
+
+  pub implies : {R : Kept → A → Type 0} → LoadsBy honest holds leaves a b first P → ((k : Kept) (y : A) → first ≡ Ok y → P k y → R k y) → LoadsBy honest holds leaves a b first R
+  implies load then = says honest holds leaves _ a b first load then
+
+  module _ {B : Type 0} {x : A} where
+    pub closes : {r : Result B StoreFault} → first ≡ Ok x → LoadsBy honest holds leaves a b first P → LoadsBy honest holds leaves a b r (λ k y. P k x)
+    closes is load = ends honest holds leaves a b first x _ is load
+
+    -- after a load that went well, what comes of it without the store
+    pub leads : {R : Kept → B → Type 0} {r : Result B StoreFault} → first ≡ Ok x → LoadsBy honest holds leaves a b first P → ((k : Kept) (y : B) → r ≡ Ok y → P k x → R k y) → LoadsBy honest holds leaves a b r R
+    leads is load then = says honest holds leaves _ a b _ (closes is load) then
+
+    pub yields : {R : Kept → B → Type 0} {y : B} → first ≡ Ok x → LoadsBy honest holds leaves a b first P → ((k : Kept) → P k x → R k y) → LoadsBy honest holds leaves a b (Ok y) R
+    yields is load then = gives honest holds leaves _ a b first x _ is load then
+
+    module _ {Q : Kept → B → Type 0} {c : T} where
+      pub continues : {R : Kept → B → Type 0} {r : Result B StoreFault} → first ≡ Ok x → LoadsBy honest holds leaves a b first P → LoadsBy honest holds leaves b c r Q
+          → ((k : Kept) (y : B) → r ≡ Ok y → P k x → Q k y → R k y) → LoadsBy honest holds leaves a c r R
+      continues is load more then = goes_on honest holds leaves _ a b c first x _ is load more then
+
+      pub joined : {r : Result B StoreFault} → first ≡ Ok x → LoadsBy honest holds leaves a b first P → LoadsBy honest holds leaves b c r Q → LoadsBy honest holds leaves a c r (λ k y. P k x × Q k y)
+      joined is load more = with_both honest holds leaves a b c first x _ is load more
+
+      pub both_yield : {C : Type 0} {R : Kept → C → Type 0} {second : Result B StoreFault} {y : B} {z : C} → first ≡ Ok x → second ≡ Ok y → LoadsBy honest holds leaves a b first P → LoadsBy honest holds leaves b c second Q
+          → ((k : Kept) → P k x → Q k y → R k z) → LoadsBy honest holds leaves a c (Ok z) R
+      both_yield is was load more then = so honest holds leaves _ a b c first x _ _ _ is was load more then

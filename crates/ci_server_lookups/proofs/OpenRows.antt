@@ -4,6 +4,7 @@ use Rattle.std.specs.List.{list_any, dedup}
 use lib.Dec.{eqb}
 use Rattle.std.proofs.lemmas.List.Kept.{Contains-dedup_nat, Contains-from_dedup}
 use Rattle.std.proofs.lemmas.Bool.{false≢true, and_parts, and_from, or_cases, or_left, or_right}
+use Rattle.std.proofs.lemmas.Bool.Decides.{same_from_decides}
 use Rattle.ci_machine_steps.specs.Prelude.{AllowFailure, Row, Status, is_status, Pipeline, Job, BoardRow, Unfinished, Kept, job_at, rows_with, jobs_of, row_for, AreBoard}
 use Rattle.ci_machine_steps.specs.Prelude.{is_open_in, unfinished_in}
 use Rattle.ci_machine.proofs.Keyed.{Has, has_filter, filter_has, has_map, map_has, find_has, has_find, has_from_contains, contains_from_has}
@@ -17,20 +18,14 @@ use Rattle.ci_server_lookups.proofs.Opens.{opened, opener}
 
 -- one of two tests passes where the other does
 pub same_test : (a b : Bool) → (a ≡ true → b ≡ true) → (b ≡ true → a ≡ true) → a ≡ b
-same_test true b f g = sym (f refl)
-same_test false true f g = g refl
-same_test false false f g = refl
+same_test a b f g = same_from_decides a b (f, g) (λ e. e, λ e. e)
 
 -- a job that keeps its pipeline open is running, pending or manual
 which : (allow : AllowFailure) (s : Status) → keeps_open allow s ≡ true → (is_status s Status.Running ≡ true) ⊎ ((is_status s Status.Pending ≡ true) ⊎ (is_status s Status.Manual ≡ true))
 which allow Status.Running e = inl refl
 which allow Status.Pending e = inr (inl refl)
 which allow Status.Manual e = inr (inr refl)
-which allow Status.Created e = absurd (false≢true e)
-which allow Status.Success e = absurd (false≢true e)
-which allow Status.Failed e = absurd (false≢true e)
-which allow Status.Canceled e = absurd (false≢true e)
-which allow Status.Skipped e = absurd (false≢true e)
+which allow _ e = absurd (false≢true e)
 
 by_job : (n : ℕ) (s : Status) (o : Option Job) → opens_with n s o ≡ true → (j : Job) × (o ≡ Some j) × (keeps_open j.options.part.allow_failure s ≡ true) × (j.pipeline ≡ n)
 by_job n s None e = absurd (false≢true e)

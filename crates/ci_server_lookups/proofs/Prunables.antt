@@ -2,12 +2,13 @@
 use Rattle.std.proofs.Common.{◌≡◌, ℕ, zero, suc, ◌<◌, ◌==◌, ◌&&◌, nat_lt, not, cond, Bool, true, false, List, [], ◌∷◌, length, filter, find, take, Contains, Option, Some, None}
 use Rattle.std.proofs.Common.{is_some, refl, sym, ap, subst, ◌∙◌, inl, inr, ⊎_elim, eqb-true, eq-eqb}
 use Rattle.std.specs.List.{list_any}
-use Rattle.std.proofs.lemmas.Bool.{cond_both, cond-true, cond-false, both_ways, cases_Bool, false≢true}
+use Rattle.std.proofs.lemmas.Bool.{cond_both, cond-true, cond-false, false≢true}
 use Rattle.ci_machine_steps.specs.Prelude.{Pipeline, Unfinished, is_open_in, unfinished_in, Kept, prunable_in}
 use Rattle.ci_machine.proofs.Keyed.{Has, Rising, one_at, has_filter, filter_has, has_from_all, has_from_contains}
 use Rattle.ci_machine.proofs.Tests.{any_mapped, any_has, has_any}
 use Rattle.ci_store.specs.Prelude.{made_before, AreSome}
 use Rattle.ci_server_lookups.specs.Prelude.{AreOpen}
+use Rattle.ci_server_lookups.proofs.OpenRows.{same_test}
 
 -- ---- lists
 
@@ -58,19 +59,16 @@ module _ (k : Kept) (rise : Rising (λ (p : Pipeline). p.id) 0 k.state.pipelines
   -- a pipeline is one of those that are listed if it isn't finished
   listed : (p : Pipeline) → Has p k.state.pipelines → is_listed p ≡ is_open p
   listed p h =
+      let is_p : Pipeline → Bool = λ q. q.id == p.id in
       are_open p.id
       ∙ ap (list_any (λ u. u.pipeline == p.id)) unfinished
       ∙ sym (any_mapped (λ (u : Unfinished). u.pipeline == p.id) (λ (q : Pipeline). record { pipeline = q.id }) (filter is_open k.state.pipelines))
-      ∙ ⊎_elim
-      (λ (e : is_open p ≡ true). has_any (λ (q : Pipeline). q.id == p.id) p (filter is_open k.state.pipelines) (filter_has is_open p k.state.pipelines h e) (eq-eqb p.id p.id refl) ∙ sym e)
-      (λ (e : is_open p ≡ false). ⊎_elim
-      (λ (t : list_any (λ (q : Pipeline). q.id == p.id) (filter is_open k.state.pipelines) ≡ true).
-      let w = any_has (λ (q : Pipeline). q.id == p.id) (filter is_open k.state.pipelines) t in
+      ∙ same_test (list_any is_p (filter is_open k.state.pipelines)) (is_open p)
+      (λ t.
+      let w = any_has is_p (filter is_open k.state.pipelines) t in
       let of = has_filter is_open w.0 k.state.pipelines w.1.0 in
-      absurd (both_ways (is_open p) e (subst (λ (q : Pipeline). is_open q ≡ true) (one_at (λ (q : Pipeline). q.id) w.0 p 0 k.state.pipelines rise of.0 h (eqb-true w.0.id p.id w.1.1)) of.1)))
-      (λ f. f ∙ sym e)
-      (cases_Bool (list_any (λ (q : Pipeline). q.id == p.id) (filter is_open k.state.pipelines))))
-      (cases_Bool (is_open p))
+      subst (λ (q : Pipeline). is_open q ≡ true) (one_at (λ (q : Pipeline). q.id) w.0 p 0 k.state.pipelines rise of.0 h (eqb-true w.0.id p.id w.1.1)) of.1)
+      (λ e. has_any is_p p (filter is_open k.state.pipelines) (filter_has is_open p k.state.pipelines h e) (eq-eqb p.id p.id refl))
 
   as_found : prunable_in k.state k.board before ≡ find (λ p. not (is_listed p)) (made_before before k.state.pipelines)
   as_found =

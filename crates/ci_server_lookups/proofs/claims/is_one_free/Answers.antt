@@ -1,6 +1,6 @@
 use Rattle.std.proofs.Common.{sym, ◌∙◌}
 use Rattle.ci_machine_steps.specs.Prelude.{groups_in}
-use Rattle.ci_server_lookups.proofs.Loading.{gives, so}
+use Rattle.ci_server_lookups.proofs.Loading.{yields, both_yield}
 use Rattle.ci_server_lookups.proofs.Holds.{held_by_row}
 use Rattle.ci_server_lookups.proofs.Claiming.{not_free, free_unless}
 use Rattle.ci_server_lookups.proofs.claims.is_one_free.Goals as goal
@@ -8,7 +8,7 @@ use Rattle.ci_server_lookups.proofs.claims.is_one_free.Goals as goal
 -- a live attempt holds it
 pub returns-then-is_some : goal.returns-then-is_some
 returns-then-is_some g c =
-    gives g.T.Store.honest g.T.Store.holds g.T.Store.leaves _ _ _ c.holder.result c.in_ok-holder.holder _ c.in_ok-holder.was c.holder.ensures
+    yields c.in_ok-holder.was c.holder.ensures
     (λ k its kept.
     not_free (groups_in k.state k.board) c.args.pipeline c.args.project c.args.group.now
     (sym (held_by_row k.state k.holders kept.are_indexes.held c.args.project c.args.group.now c.in_ok-holder.holder its) ∙ (sym c.is_some.ensures ∙ c.if-is_some.true)))
@@ -16,7 +16,7 @@ returns-then-is_some g c =
 -- none does, and it is free unless another goes first
 pub returns : goal.returns
 returns g c =
-    so g.T.Store.honest g.T.Store.holds g.T.Store.leaves _ _ _ _ c.holder.result c.in_ok-holder.holder c.is_behind.result c.in_ok-behind.behind _ c.in_ok-holder.was c.in_ok-behind.was c.holder.ensures c.is_behind.ensures
+    both_yield c.in_ok-holder.was c.in_ok-behind.was c.holder.ensures c.is_behind.ensures
     (λ k its got kept.
     free_unless (groups_in k.state k.board) c.args.pipeline c.args.project c.args.group.now c.in_ok-behind.behind
     (sym (held_by_row k.state k.holders kept.are_indexes.held c.args.project c.args.group.now c.in_ok-holder.holder its) ∙ (sym c.is_some.ensures ∙ c.if-is_some.false))

@@ -2,18 +2,15 @@ use Rattle.std.proofs.Common.{◌||◌, ap, ◌∙◌}
 use Rattle.std.specs.List.{list_any}
 use Rattle.ci_machine_steps.specs.Prelude.{Status, rows_with}
 use Rattle.ci_server_lookups.specs.Prelude.{has_number, opens}
-use Rattle.ci_server_lookups.proofs.Loading.{so, with_both}
+use Rattle.ci_server_lookups.proofs.Loading.{both_yield, joined}
 use Rattle.ci_server_lookups.proofs.OpenRows.{are_open}
 use Rattle.ci_server_lookups.proofs.unfinished.unfinished_of.Goals as goal
 
 -- the rows of three statuses, one after the other
 pub returns : goal.returns
 returns g c =
-    let honest = g.T.Store.honest in
-    let holds = g.T.Store.holds in
-    let leaves = g.T.Store.leaves in
-    so honest holds leaves _ _ _ _ c.push_open-2.result c.in_ok-push_open-2.field-0 c.push_open-3.result c.in_ok-push_open-3.field-0 c.each_once.result c.in_ok-push_open-2.was c.in_ok-push_open-3.was
-    (with_both honest holds leaves _ _ _ c.push_open.result c.in_ok-push_open.field-0 c.push_open-2.result c.in_ok-push_open.was c.push_open.ensures c.push_open-2.ensures)
+    both_yield c.in_ok-push_open-2.was c.in_ok-push_open-3.was
+    (joined c.in_ok-push_open.was c.push_open.ensures c.push_open-2.ensures)
     c.push_open-3.ensures
     (λ k before manual kept.
     are_open k c.each_once.result.items kept
