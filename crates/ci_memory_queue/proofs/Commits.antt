@@ -1,28 +1,28 @@
--- What is remembered of the pending jobs is right after a commit.
-use Rattle.std.proofs.Common.{◌≡◌, ℕ, ◌≤◌, Bool, List, Option, Some, None, IfSome, option_map, option_and_then, refl, sym, ap, subst, ◌∙◌}
-use Rattle.ci_machine_steps.specs.Prelude.{Pending, is_status, BoardRow, NewestReadyFirst, Job, Pipeline, RowChange, IndexChange, State, Kept, cleared, written, row_or_none}
-use Rattle.ci_machine_steps.specs.Prelude.{job_at, pipeline_at}
+-- What is remembered of the pending jobs, and of those that wait, is right after a commit.
+use Rattle.std.proofs.Common.{◌≡◌, ℕ, ◌≤◌, Bool, List, Option, Some, IfSome, option_map, option_and_then, refl, sym, ap, subst, ◌∙◌, arith}
+use Rattle.ci_machine_steps.specs.Prelude.{Pending, is_status, BoardRow, OldestFirst, NewestReadyFirst, Job, RowChange, IndexChange, State, Kept, cleared, written, row_or_none, job_at, pipeline_at}
+use Rattle.ci_store.specs.Prelude.{row_at}
 use Rattle.ci_memory_queue.specs.declared.queue.Class.{Class}
+use Rattle.ci_memory_queue.specs.declared.lines.Line.{Line}
+use Rattle.ci_memory_queue.specs.declared.lines.Place.{Place}
 use Rattle.ci_memory_queue.specs.Covers.{asked_by, IsSorted, Covers, IsRight}
+use Rattle.ci_memory_queue.specs.LineCovers as line
 use Rattle.ci_memory_queue.specs.Known.{Known}
+use Rattle.ci_memory_queue.specs.KnownLines.{Known as KnownLines}
 use Rattle.ci_memory_queue.specs.Notes.{Noted, noted}
+use Rattle.ci_memory_queue.specs.Places.{place_by, counts}
 use Rattle.ci_memory_queue.proofs.Noting.{covers_written}
+use Rattle.ci_memory_queue.proofs.Waits.{maker, made_alike}
 
 -- the row that is found says whether the job is pending
 abbrev says_pending : Option BoardRow → Bool
 says_pending o = is_status (row_or_none o).status Pending
 
--- where the pipeline of a job is found as before, what it asks is as before
-asks_alike : (o : Option Job) (newest : ℕ) (before after : ℕ → Option Pipeline) → ((m : ℕ) → m ≤ newest → after m ≡ before m) → IfSome o (λ j. j.pipeline ≤ newest)
-    → option_and_then (λ (j : Job). option_map (asked_by j) (after j.pipeline)) o ≡ option_and_then (λ (j : Job). option_map (asked_by j) (before j.pipeline)) o
-asks_alike None newest before after same within = refl
-asks_alike (Some j) newest before after same within = ap (option_map (asked_by j)) (same j.pipeline within)
-
 sorted_stays : (classes : List Class) (s t : State) (board : List BoardRow) (newest n : ℕ) → job_at t n ≡ job_at s n → ((m : ℕ) → m ≤ newest → pipeline_at t m ≡ pipeline_at s m)
     → IsSorted s classes newest n → IsSorted t classes newest n
 sorted_stays classes s t board newest n job pipelines w = record {
   asks = w.asks;
-  asked = ap (option_and_then (λ (j : Job). option_map (asked_by j) (pipeline_at t j.pipeline))) job ∙ (asks_alike (job_at s n) newest (pipeline_at s) (pipeline_at t) pipelines w.pipeline ∙ w.asked);
+  asked = ap (option_and_then (λ (j : Job). option_map (asked_by j) (pipeline_at t j.pipeline))) job ∙ (made_alike asked_by (job_at s n) newest (pipeline_at s) (pipeline_at t) pipelines w.pipeline ∙ w.asked);
   among = w.among;
   pipeline = subst (λ (o : Option Job). IfSome o (λ j. j.pipeline ≤ newest)) (sym job) w.pipeline;
 }
@@ -37,3 +37,39 @@ pub right_after : (o : Option Known) (q : Known) (classes : List Class) (before 
 right_after o q classes before after changes rows indexes jobs k is parts notes right =
     covers_written NewestReadyFirst says_pending (λ r. refl) refl (λ s board newest n. IsSorted s classes newest n) (sorted_stays classes) (λ s board more newest n row w. w)
     changes rows indexes jobs k before after notes (subst (λ (x : Known). Covers x k.state k.board) (sym parts) (subst (λ (p : Option Known). IsRight p k) is right))
+
+-- ---- the jobs that wait
+
+lines_stay : (lines : List Line) (s t : State) (board : List BoardRow) (newest n : ℕ) → job_at t n ≡ job_at s n → ((m : ℕ) → m ≤ newest → pipeline_at t m ≡ pipeline_at s m)
+    → line.IsSorted s board lines newest n → line.IsSorted t board lines newest n
+lines_stay lines s t board newest n job pipelines w = record {
+  place = w.place;
+  placed = ap (option_and_then (λ (j : Job). option_map (place_by j) (pipeline_at t j.pipeline))) job ∙ (made_alike place_by (job_at s n) newest (pipeline_at s) (pipeline_at t) pipelines its ∙ w.placed);
+  pipeline = w.pipeline;
+  in_turn = w.in_turn;
+}
+  where
+    its : IfSome (job_at s n) (λ j. j.pipeline ≤ newest)
+    its =
+        let own = maker place_by (job_at s n) (pipeline_at s) w.place w.placed in
+        let number = ap (λ (p : Place). p.pipeline) own.4 in
+        subst (λ (o : Option Job). IfSome o (λ j. j.pipeline ≤ newest)) (sym own.1) (omega (arith, number, w.pipeline))
+
+lines_stay_by_row : (lines : List Line) (s : State) (board more : List BoardRow) (newest n : ℕ) → row_at n more ≡ row_at n board → line.IsSorted s board lines newest n → line.IsSorted s more lines newest n
+lines_stay_by_row lines s board more newest n row w = record {
+  place = w.place;
+  placed = w.placed;
+  pipeline = w.pipeline;
+  in_turn = subst (λ (ready : Bool). line.IsInTurn lines w.place ready n) (ap (counts NewestReadyFirst) (sym row)) w.in_turn;
+}
+
+abbrev pub known_lines : List Line → Noted → KnownLines
+known_lines lines q = record { lines = lines; fresh = q.fresh; newest = q.newest; newest_pipeline = q.newest_pipeline }
+
+-- what was right before, by its parts
+pub lines_right_after : (o : Option KnownLines) (q : KnownLines) (lines : List Line) (before after : Noted) (changes : List RowChange) (rows : List BoardRow) (indexes : List IndexChange) (jobs : List ℕ) (k : Kept)
+    → o ≡ Some q → known_lines lines before ≡ q → noted OldestFirst changes rows before ≡ Some after
+    → line.IsRight o k → line.Covers (known_lines lines after) (written changes rows indexes (cleared jobs k)).state (written changes rows indexes (cleared jobs k)).board
+lines_right_after o q lines before after changes rows indexes jobs k is parts notes right =
+    covers_written OldestFirst (counts OldestFirst) (λ r. refl) refl (λ s board newest n. line.IsSorted s board lines newest n) (lines_stay lines) (lines_stay_by_row lines)
+    changes rows indexes jobs k before after notes (subst (λ (x : KnownLines). line.Covers x k.state k.board) (sym parts) (subst (λ (p : Option KnownLines). line.IsRight p k) is right))

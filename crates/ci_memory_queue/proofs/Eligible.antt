@@ -1,22 +1,22 @@
 -- The least of the pending jobs that a runner may be given, by classes, is the first of the queue that it may be given.
-use Rattle.std.proofs.Common.{◌≡◌, ℕ, ◌+◌, ◌≤◌, Bool, true, ◌&&◌, ◌==◌, cond, false, List, [], ◌∷◌, map, filter, find, Option, Some, None}
-use Rattle.std.proofs.Common.{IfSome, option_map, option_and_then, refl, sym, ap, subst, ◌∙◌, inl, inr, ⊎_elim, arith, eqb-true}
-use Rattle.std.proofs.lemmas.Bool.{and_parts, both_ways, cases_Bool, cond_both}
+use Rattle.std.proofs.Common.{◌≡◌, ℕ, ◌+◌, ◌≤◌, Bool, true, ◌&&◌, ◌==◌, List, [], ◌∷◌, map, filter, find, Option, Some, None, IfSome, option_map, option_and_then, refl, sym, ap, subst}
+use Rattle.std.proofs.Common.{◌∙◌, inl, inr, ⊎_elim, arith, eqb-true}
+use Rattle.std.proofs.lemmas.Bool.{and_parts, and_from, cases_Bool}
 use Rattle.ci_machine_steps.specs.Prelude.{Job, Pipeline, BoardRow, QueuedJob, Runner, may_run, is_free, is_eligible, chosen, groups_in, claims_in, State, Kept, row_for}
 use Rattle.ci_machine_steps.specs.Prelude.{row_or_none, job_at, pipeline_at, is_pending, queued, queue, project_or_none, pipeline_or_none}
-use Rattle.ci_machine.proofs.Keyed.{Has, Rising, rising_filter, has_filter, filter_has, has_find, find_has, rising_from, has_from_contains}
+use Rattle.ci_machine.proofs.Keyed.{Has, Rising, rising_filter, has_filter, filter_has, has_find, find_has, rising_from}
 use Rattle.ci_machine_steps.proofs.Sound.{sound}
 use Rattle.ci_server_lookups.specs.Prelude.{IsKept, IsOffered}
 use Rattle.ci_server_lookups.specs.declared.search.Offer.{Offer}
 use Rattle.ci_memory_queue.specs.declared.queue.Asks.{Asks}
 use Rattle.ci_memory_queue.specs.declared.queue.Class.{Class}
-use Rattle.ci_memory_queue.specs.Known.{Known}
 use Rattle.ci_memory_queue.specs.Covers.{asked_by, asks_at, is_pending_at, IsAmong, IsSorted, Covers}
 use Rattle.ci_memory_queue.specs.Offers.{UpTo, IsPendingOf, IsBest}
 use Rattle.ci_memory_queue.specs.Turns.{is_free_at}
 use Rattle.ci_memory_queue.specs.Notes.{Noted}
 use Rattle.ci_memory_queue.proofs.Commits.{known}
 use Rattle.ci_memory_queue.proofs.Found.{find_none}
+use Rattle.ci_memory_queue.proofs.Sorts.{all_sorted}
 use Rattle.ci_memory_queue.proofs.Waits.{mapped_from}
 
 -- ---- the first of a list that rises is its least
@@ -24,17 +24,11 @@ use Rattle.ci_memory_queue.proofs.Waits.{mapped_from}
 find_least : {A : Type 0} (id : A → ℕ) (p : A → Bool) (x : A) (low : ℕ) (xs : List A) → Rising id low xs → Has x xs → p x ≡ true → ((y : A) → Has y xs → p y ≡ true → id x ≤ id y) → find p xs ≡ Some x
 find_least id p x low [] rise h e least = absurd h
 find_least id p x low (y ∷ ys) rise h e least =
-    cond_both (p y) (Some y) (find p ys) (λ o. o ≡ Some x)
-    (λ t. ⊎_elim (λ same. ap (λ z. Some z) (sym same)) (λ m. absurd (let a : id x ≤ id y = least y (inl refl) t in let b : id y + 1 ≤ id x = rising_from id x (id y + 1) ys rise.1 m in omega arith)) h)
-    (λ f. ⊎_elim (λ same. absurd (both_ways (p y) f (ap p (sym same) ∙ e))) (λ m. find_least id p x (id y + 1) ys rise.1 m e (λ z k q. least z (inr k) q)) h)
-
-mapped_step : {A B : Type 0} (f : A → B) (x : A) (b : Bool) (o : Option B) (r : Option A) → o ≡ option_map f r → cond b (Some (f x)) o ≡ option_map f (cond b (Some x) r)
-mapped_step f x true o r e = refl
-mapped_step f x false o r e = e
+    grind (arith, least y (inl refl), rising_from id x (id y + 1) ys rise.1, λ (m : Has x ys). find_least id p x (id y + 1) ys rise.1 m e (λ z k q. least z (inr k) q))
 
 find_mapped : {A B : Type 0} (f : A → B) (p : B → Bool) (xs : List A) → find p (map f xs) ≡ option_map f (find (λ x. p (f x)) xs)
 find_mapped f p [] = refl
-find_mapped f p (x ∷ xs) = mapped_step f x (p (f x)) (find p (map f xs)) (find (λ y. p (f y)) xs) (find_mapped f p xs)
+find_mapped f p (x ∷ xs) = grind (arith, find_mapped f p xs)
 
 -- ---- what a job asks
 
@@ -45,9 +39,6 @@ eligible_is_open s board runner j asks e =
     let own = mapped_from (asked_by j) (pipeline_at s j.pipeline) asks e in
     ap (λ (o : Option Pipeline). is_eligible runner (groups_in s board) (record { job = j; project = project_or_none o })) own.1.0
     ∙ ap (λ (a : Asks). may_run runner a.project a.tags && is_free (claims_in s board j.pipeline) a.project a.group) own.1.1
-
-both : (a b : Bool) → a ≡ true → b ≡ true → (a && b) ≡ true
-both a b e f = ap (λ x. x && b) e ∙ f
 
 -- what a job that was found asks
 asks_found : (s : State) (n : ℕ) (j : Job) (asks : Asks) → job_at s n ≡ Some j → asks_at s n ≡ Some asks → option_map (asked_by j) (pipeline_at s j.pipeline) ≡ Some asks
@@ -99,7 +90,7 @@ module _ (k : Kept) (kept : IsKept k) (runner : Runner) (classes : List Class) (
       let its : Has j pending = filter_has (is_pending k.board) j k.state.jobs there.0 (subst (λ n. is_pending_at k.board n ≡ true) (sym number) of.pending) in
       let eligible : may j ≡ true =
       eligible_is_open k.state k.board runner j asks (asks_found k.state offer.row.job j asks own.1.0 of.asked)
-      ∙ both (may_run runner asks.project asks.tags) (is_free (claims_in k.state k.board j.pipeline) asks.project asks.group) is.may.1.1.may
+      ∙ and_from (may_run runner asks.project asks.tags) (is_free (claims_in k.state k.board j.pipeline) asks.project asks.group) is.may.1.1.may
       (sym (free_by asks offer.row.job j own.1.0) ∙ is.may.1.1.free) in
       let found : find may pending ≡ Some j = find_least (λ (x : Job). x.id) may j 0 pending (rising_filter (λ (x : Job). x.id) (is_pending k.board) 0 k.state.jobs rise) its eligible
       (λ y h e. let l : offer.row.job ≤ y.id = up_to (Some offer) is y h e in omega arith) in
@@ -115,11 +106,6 @@ module _ (k : Kept) (kept : IsKept k) (runner : Runner) (classes : List Class) (
 
 -- ---- what is covered
 
--- where no job is fresh, all pending ones are in classes
-pub all_sorted : (q : Known) (s : State) (board : List BoardRow) → q.fresh ≡ [] → Covers q s board → (job : ℕ) → is_pending_at board job ≡ true → IsSorted s q.classes q.newest_pipeline job
-all_sorted q s board none covers job pending =
-    ⊎_elim (λ c. absurd (subst (Has job) none (has_from_contains job q.fresh c))) (λ w. w) (covers job pending).1
-
 -- what is in a class stays so where no class that has it loses it
 pub sorted_raised : (s : State) (classes more : List Class) (low high job : ℕ) → low ≤ high → ((asks : Asks) → asks_at s job ≡ Some asks → IsAmong classes asks job → IsAmong more asks job)
     → IsSorted s classes low job → IsSorted s more high job
@@ -129,22 +115,17 @@ sorted_raised s classes more low high job raised keeps w = record { asks = w.ask
     raise None h = tt
     raise (Some j) h = let l : j.pipeline ≤ low = h in omega arith
 
-module _ (k : Kept) (q : Known) (classes : List Class) (none : q.fresh ≡ []) (covers : Covers q k.state k.board)
-    (keeps : (asks : Asks) (job : ℕ) → is_pending_at k.board job ≡ true → asks_at k.state job ≡ Some asks → IsAmong q.classes asks job → IsAmong classes asks job) where
+module _ (k : Kept) (classes given new : List Class) (notes : Noted) (same : given ≡ classes) (none : notes.fresh ≡ []) (covers : Covers (known classes notes) k.state k.board)
+    (keeps : (asks : Asks) (job : ℕ) → is_pending_at k.board job ≡ true → asks_at k.state job ≡ Some asks → IsAmong given asks job → IsAmong new asks job) where
   -- so they are once others are taken out
-  pub still_sorted : (job : ℕ) → is_pending_at k.board job ≡ true → IsSorted k.state classes q.newest_pipeline job
-  still_sorted job pending = sorted_raised k.state q.classes classes q.newest_pipeline q.newest_pipeline job (omega arith) (λ asks asked. keeps asks job pending asked) (all_sorted q k.state k.board none covers job pending)
+  still_sorted : (job : ℕ) → is_pending_at k.board job ≡ true → IsSorted k.state new notes.newest_pipeline job
+  still_sorted job pending =
+      sorted_raised k.state classes new notes.newest_pipeline notes.newest_pipeline job (omega arith) (λ asks asked w. keeps asks job pending asked (subst (λ (cs : List Class). IsAmong cs asks job) (sym same) w))
+      (all_sorted (is_pending_at k.board) (IsSorted k.state classes) notes none covers job pending)
 
-  pub still_covers : Covers (record q { classes = classes }) k.state k.board
+  pub still_covers : Covers (known new notes) k.state k.board
   still_covers job pending = ((covers job pending).0, inr (still_sorted job pending))
 
--- so it is known after a search of the classes, whose best is the offer
-pub searched : (k : Kept) (classes given new : List Class) (notes : Noted) → given ≡ classes → (notes.fresh ≡ []) × Covers (known classes notes) k.state k.board
-    → ((asks : Asks) (job : ℕ) → is_pending_at k.board job ≡ true → asks_at k.state job ≡ Some asks → IsAmong given asks job → IsAmong new asks job)
-    → Covers (known new notes) k.state k.board × (IsKept k → (runner : Runner) (best : Option Offer) → IsBest k runner new best → IsOffered k runner best)
-searched k classes given new notes same is keeps =
-    let kept : (asks : Asks) (job : ℕ) → is_pending_at k.board job ≡ true → asks_at k.state job ≡ Some asks → IsAmong classes asks job → IsAmong new asks job
-    = subst (λ (cs : List Class). (asks : Asks) (job : ℕ) → is_pending_at k.board job ≡ true → asks_at k.state job ≡ Some asks → IsAmong cs asks job → IsAmong new asks job) same keeps in (
-      still_covers k (known classes notes) new is.0 is.1 kept,
-      λ sound runner. is_offered k sound runner new notes.newest_pipeline (still_sorted k (known classes notes) new is.0 is.1 kept),
-    )
+  -- and the best of the classes is the offer
+  pub best_offered : IsKept k → (runner : Runner) (best : Option Offer) → IsBest k runner new best → IsOffered k runner best
+  best_offered kept runner = is_offered k kept runner new notes.newest_pipeline still_sorted

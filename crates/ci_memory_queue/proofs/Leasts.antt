@@ -1,5 +1,5 @@
 -- The least pending job of some classes that a runner may be given, class by class.
-use Rattle.std.proofs.Common.{◌≡◌, ℕ, ◌+◌, ◌<◌, true, List, [], ◌∷◌, ◌++◌, length, take, Contains, Option, Some, None, slice_index_or, slice_set, sym, ap, subst, ◌∙◌, inl, inr}
+use Rattle.std.proofs.Common.{◌≡◌, ℕ, ◌+◌, ◌<◌, true, List, [], ◌∷◌, ◌++◌, length, take, Contains, Option, Some, None, slice_index_or, slice_set, sym, ap, subst, ◌∙◌}
 use Rattle.std.proofs.Common.{⊎_elim}
 use Rattle.std.proofs.lemmas.List.{take_more_set}
 use Rattle.ci_machine_steps.specs.Prelude.{Runner, may_run, Kept}
@@ -10,7 +10,7 @@ use Rattle.ci_memory_queue.specs.declared.queue.Asks.{Asks}
 use Rattle.ci_memory_queue.specs.declared.queue.Class.{Class}
 use Rattle.ci_memory_queue.specs.Covers.{asks_at, is_pending_at, IsAmong}
 use Rattle.ci_memory_queue.specs.Offers.{IsFirstFree, IsOpen, IsBetter, IsBest}
-use Rattle.ci_memory_queue.proofs.Sets.{among_one, set_has, set_new}
+use Rattle.ci_memory_queue.proofs.Sets.{among_one, among_set}
 
 -- ---- one class
 
@@ -52,10 +52,6 @@ module _ (k : Kept) (runner : Runner) where
 pub keeps_more : (k : Kept) (classes : List Class) (i : ℕ) (old new : Class) → i < length classes → old ≡ slice_index_or classes i old → new.asks ≡ old.asks
     → ((job : ℕ) → is_pending_at k.board job ≡ true → asks_at k.state job ≡ Some old.asks → Contains old.jobs.keys job → Contains new.jobs.keys job)
     → (asks : Asks) (job : ℕ) → is_pending_at k.board job ≡ true → asks_at k.state job ≡ Some asks → IsAmong classes asks job → IsAmong (slice_set classes i new) asks job
-keeps_more k classes i old new within at same keeps asks job pending asked w =
-    ⊎_elim
-    (λ (e : w.of ≡ old).
-    among_one (slice_set classes i new) asks job new (set_new classes i new within) (same ∙ (ap (λ (c : Class). c.asks) (sym e) ∙ w.same))
-    (keeps job pending (asked ∙ ap (λ (a : Asks). Some a) (sym w.same ∙ ap (λ (c : Class). c.asks) e)) (subst (λ (c : Class). Contains c.jobs.keys job) e w.has)))
-    (λ h. among_one (slice_set classes i new) asks job w.of h w.same w.has)
-    (⊎_elim (λ e. inl (e ∙ sym at)) (λ h. inr h) (set_has w.of classes i new old within (has_from_contains w.of classes w.there)))
+keeps_more k classes i old new within at same keeps asks job pending asked =
+    among_set classes i old new asks job within (same ∙ ap (λ (c : Class). c.asks) at)
+    (λ its has. keeps job pending (asked ∙ ap (λ (a : Asks). Some a) (sym its ∙ ap (λ (c : Class). c.asks) (sym at))) (subst (λ (c : Class). Contains c.jobs.keys job) (sym at) has))

@@ -5,12 +5,10 @@ pub mod Noting
 pub mod Filling
 pub mod Commits
 pub mod Waits
-pub mod Firsts
 pub mod Ones
 pub mod Leasts
 pub mod Eligible
 pub mod Finds
-pub mod LineCommits
 pub mod LineFirsts
 pub mod LineTurns
 pub mod Covered

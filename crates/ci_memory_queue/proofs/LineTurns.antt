@@ -1,9 +1,9 @@
 -- The first job of a group tells whose turn it is.
-use Rattle.std.proofs.Common.{◌≡◌, ◌⊎◌, ℕ, ◌<◌, ◌≤◌, Bool, true, false, ◌&&◌, ◌==◌, nat_lt, List, find, Contains, Option, Some, None, option_map, option_and_then, refl, sym, ap}
-use Rattle.std.proofs.Common.{subst, ◌∙◌, inl, inr, ⊎_elim, arith, eqb-true, eq-eqb, ltb-true, lt-ltb, ltb-false}
+use Rattle.std.proofs.Common.{◌≡◌, ℕ, ◌<◌, ◌≤◌, Bool, true, false, ◌&&◌, ◌==◌, nat_lt, List, Contains, Option, Some, None, option_map, option_and_then, refl, sym, ap, subst}
+use Rattle.std.proofs.Common.{◌∙◌, inl, ⊎_elim, arith, eqb-true, eq-eqb, ltb-true, lt-ltb}
 use Rattle.std.specs.List.{list_any}
 use Rattle.std.specs.Str.{bytes_eq}
-use Rattle.std.proofs.lemmas.Bool.{cases_Bool, and_parts, or_right, false≢true}
+use Rattle.std.proofs.lemmas.Bool.{cases_Bool, cases_lt, and_parts, and_from, or_right, false≢true}
 use Rattle.std.proofs.lemmas.Slice.Eq.{bytes_eq-Decides}
 use Rattle.ci_machine_steps.specs.Prelude.{Row, Status, Created, Pending, is_status, GroupOrder, OldestFirst, NewestReadyFirst, Job, Pipeline, QueuedJob, WaitingJob, goes_before}
 use Rattle.ci_machine_steps.specs.Prelude.{is_in_line, is_behind, Kept, job_at, pipeline_at, project_or_none, queued, status_for, waits_for, waits_as, waiting}
@@ -16,6 +16,7 @@ use Rattle.ci_server_lookups.proofs.OpenRows.{same_test}
 use Rattle.ci_memory_queue.specs.declared.lines.Place.{Place}
 use Rattle.ci_memory_queue.specs.Places.{place_by, place_at, counts_as, counts, counts_at}
 use Rattle.ci_memory_queue.specs.First.{IsInGroup, GoesFirst, IsFirst}
+use Rattle.ci_memory_queue.proofs.Waits.{maker}
 
 -- ---- what a job waits for
 
@@ -48,9 +49,6 @@ module _ (q : QueuedJob) where
 
 -- ---- orders
 
-both_true : (a b : Bool) → a ≡ true → b ≡ true → (a && b) ≡ true
-both_true a b e f = ap (λ x. x && b) e ∙ f
-
 -- the pipeline goes before the other in a group with this order
 abbrev IsBefore : GroupOrder → ℕ → ℕ → Type 0
 IsBefore OldestFirst pipeline other = pipeline < other
@@ -68,7 +66,7 @@ before_from NewestReadyFirst st w p c pending e = let both = and_parts (nat_lt p
 
 before_to : (order : GroupOrder) (st : Status) (w : WaitingJob) (p : ℕ) → w.pending ≡ is_status st Pending → counts_as order st ≡ true → IsBefore order w.pipeline p → goes_before order p w ≡ true
 before_to OldestFirst st w p pending c l = lt-ltb w.pipeline p l
-before_to NewestReadyFirst st w p pending c l = both_true (nat_lt p w.pipeline) w.pending (lt-ltb p w.pipeline l) (pending ∙ c)
+before_to NewestReadyFirst st w p pending c l = and_from (nat_lt p w.pipeline) w.pending (lt-ltb p w.pipeline l) (pending ∙ c)
 
 past_from : (order : GroupOrder) (turn p : ℕ) → is_past order (Some turn) p ≡ true → IsBefore order turn p
 past_from OldestFirst turn p e = ltb-true turn p e
@@ -78,20 +76,7 @@ past_to : (order : GroupOrder) (turn p : ℕ) → IsBefore order turn p → is_p
 past_to OldestFirst turn p l = lt-ltb turn p l
 past_to NewestReadyFirst turn p l = lt-ltb p turn l
 
-up_to_or_over : (n m : ℕ) → (n ≤ m) ⊎ (m < n)
-up_to_or_over n m = ⊎_elim (λ e. inr (ltb-true m n e)) (λ e. inl (ltb-false m n e)) (cases_Bool (nat_lt m n))
-
 -- ---- jobs with their places
-
--- a job that has a place is there, and so is its pipeline
-pub placed_job : (o : Option Job) (find : ℕ → Option Pipeline) (place : Place) → option_and_then (λ (j : Job). option_map (place_by j) (find j.pipeline)) o ≡ Some place
-    → (j : Job) × (o ≡ Some j) × (p : Pipeline) × (find j.pipeline ≡ Some p) × (place_by j p ≡ place)
-placed_job None find place e = absurd (cc)
-placed_job (Some j) find place e = of (find j.pipeline) refl e
-  where
-    of : (r : Option Pipeline) → find j.pipeline ≡ r → option_map (place_by j) r ≡ Some place → (i : Job) × (Some j ≡ Some i) × (p : Pipeline) × (find i.pipeline ≡ Some p) × (place_by i p ≡ place)
-    of None f g = absurd (cc)
-    of (Some p) f g = let same : place_by j p ≡ place = cc in (j, refl, p, f, same)
 
 module _ (k : Kept) (kept : IsKept k) (order : GroupOrder) (project : ℕ) (group : List ℕ) where
   snd : Sound k.state
@@ -146,23 +131,23 @@ module _ (k : Kept) (kept : IsKept k) (order : GroupOrder) (project : ℕ) (grou
   -- a job in the group that goes before them
   behind_to : (job pipeline p : ℕ) → IsInGroup order k project group job pipeline → IsBefore order pipeline p → is_behind (Some order) (waiting k.state k.board) project p group ≡ true
   behind_to job pipeline p is before =
-      let own = placed_job (job_at k.state job) (pipeline_at k.state) (record { pipeline = pipeline; project = project; group = Some group }) is.1 in
+      let own = maker place_by (job_at k.state job) (pipeline_at k.state) (record { pipeline = pipeline; project = project; group = Some group }) is.1 in
       let j = own.0 in
       let there = has_find (λ (x : Job). x.id == job) j k.state.jobs own.1 in
       let counted : counts_as order (status j) ≡ true = sym (counts_by_status order j there.0) ∙ subst (λ n. counts_at order k.board n ≡ true) (sym (eqb-true j.id job there.1)) is.0 in
       let w : WaitingJob = waiting_as (queued k.state j) (status j) group in
       let has : Has w (waits_of j) = waits_to (queued k.state j) (status j) group (ap (λ (x : Place). x.group) own.4) (counts_all order (status j) counted) in
       let its_project : w.project ≡ project = ap project_or_none own.3 ∙ ap (λ (x : Place). x.project) own.4 in
-      let line : is_in_line project group w ≡ true = both_true (w.project == project) (bytes_eq w.group group) (eq-eqb w.project project its_project) ((bytes_eq-Decides group group).1 refl) in
+      let line : is_in_line project group w ≡ true = and_from (w.project == project) (bytes_eq w.group group) (eq-eqb w.project project its_project) ((bytes_eq-Decides group group).1 refl) in
       let goes : goes_before order p w ≡ true = before_to order (status j) w p refl counted (subst (λ n. IsBefore order n p) (sym (ap (λ (x : Place). x.pipeline) own.4)) before) in
       sym (any_joined (goes_first p) waits_of k.state.jobs)
       ∙ has_any (λ i. list_any (goes_first p) (waits_of i)) j k.state.jobs there.0
-      (has_any (goes_first p) w (waits_of j) has (both_true (is_in_line project group w) (goes_before order p w) line goes))
+      (has_any (goes_first p) w (waits_of j) has (and_from (is_in_line project group w) (goes_before order p w) line goes))
 
   -- the job with a number in the group
   job_of : (job pipeline : ℕ) → IsInGroup order k project group job pipeline → (j : Job) × Has j k.state.jobs × (j.id ≡ job) × (j.pipeline ≡ pipeline)
   job_of job pipeline is =
-      let own = placed_job (job_at k.state job) (pipeline_at k.state) (record { pipeline = pipeline; project = project; group = Some group }) is.1 in
+      let own = maker place_by (job_at k.state job) (pipeline_at k.state) (record { pipeline = pipeline; project = project; group = Some group }) is.1 in
       let there = has_find (λ (x : Job). x.id == job) own.0 k.state.jobs own.1 in
       (own.0, there.0, eqb-true own.0.id job there.1, ap (λ (x : Place). x.pipeline) own.4)
 
@@ -170,14 +155,14 @@ module _ (k : Kept) (kept : IsKept k) (order : GroupOrder) (project : ℕ) (grou
   in_turn : (o : GroupOrder) (a b : Job) (p : ℕ) → Has a k.state.jobs → Has b k.state.jobs → GoesFirst o a.id b.id → IsBefore o b.pipeline p → IsBefore o a.pipeline p
   in_turn OldestFirst a b p ha hb first before =
       ⊎_elim
-      (λ (l : a.pipeline ≤ b.pipeline). let m : b.pipeline < p = before in omega arith)
       (λ (l : b.pipeline < a.pipeline). let m : b.id < a.id = snd.in_turn b a hb ha l in let f : a.id ≤ b.id = first in absurd (omega arith))
-      (up_to_or_over a.pipeline b.pipeline)
+      (λ (l : a.pipeline ≤ b.pipeline). let m : b.pipeline < p = before in omega arith)
+      (cases_lt b.pipeline a.pipeline)
   in_turn NewestReadyFirst a b p ha hb first before =
       ⊎_elim
-      (λ (l : b.pipeline ≤ a.pipeline). let m : p < b.pipeline = before in omega arith)
       (λ (l : a.pipeline < b.pipeline). let m : a.id < b.id = snd.in_turn a b ha hb l in let f : b.id ≤ a.id = first in absurd (omega arith))
-      (up_to_or_over b.pipeline a.pipeline)
+      (λ (l : b.pipeline ≤ a.pipeline). let m : p < b.pipeline = before in omega arith)
+      (cases_lt a.pipeline b.pipeline)
 
   -- of jobs among which all of the group are, the first tells whose turn it is
   module _ (jobs : List ℕ) (all : (job pipeline : ℕ) → IsInGroup order k project group job pipeline → Contains jobs job) where

@@ -1,26 +1,18 @@
 -- What notes cover stays covered after a commit, where a job that is sorted stays so while its row, its record and older pipelines stay.
-use Rattle.std.proofs.Common.{◌≡◌, ◌⊎◌, ℕ, ◌≤◌, nat_lt, max, Bool, true, false, ◌==◌, List, [], ◌∷◌, ◌++◌, Contains, Option, Some, None, refl, sym, ap}
-use Rattle.std.proofs.Common.{subst, ◌∙◌, inl, inr, ⊎_elim, arith, eqb-true}
-use Rattle.std.proofs.lemmas.Bool.{cond_both, cases_Bool, eqb-false, false≢true, ltb-true}
+use Rattle.std.proofs.Common.{◌≡◌, ◌⊎◌, ℕ, ◌≤◌, nat_lt, max, Bool, true, false, List, [], ◌∷◌, ◌++◌, Contains, Option, Some, None, refl, sym, ap, subst, ◌∙◌, inl, inr, ⊎_elim, arith}
+use Rattle.std.proofs.lemmas.Bool.{cond_both, cases_eq, false≢true, ltb-true}
+use Rattle.std.proofs.lemmas.List.Elements.{Contains-append_left, Contains-push}
 use Rattle.ci_machine_steps.specs.Prelude.{BoardRow, GroupOrder, Job, Pipeline, IndexChange, Key, Record, RowChange, Put, Append, Remove, State, put, without, without_all}
 use Rattle.ci_machine_steps.specs.Prelude.{with_record, without_record, changed, applied, Kept, row_cmp, put_rows, indexed_all, cleared, written, job_at, pipeline_at}
 use Rattle.ci_store.specs.Prelude.{row_at}
-use Rattle.ci_machine.proofs.Keyed.{has_from_contains, contains_from_has}
-use Rattle.ci_machine_steps.proofs.Behind.{has_left, has_right}
 use Rattle.ci_server_lookups.proofs.Changes.{state_stays, board_stays}
 use Rattle.ci_memory_queue.specs.Notes.{Noted, with_note, job_noted, record_noted, removal_noted, change_noted, changes_noted, row_noted, rows_noted, noted}
 use Rattle.ci_memory_queue.specs.Places.{counts_as}
 use Rattle.ci_memory_queue.proofs.Found.{put_other, put_same, without_other, without_same}
 use Rattle.ci_memory_queue.proofs.Waits.{then_from, mapped_from}
 
-same_or_not : (n m : ℕ) → (n ≡ m) ⊎ (n ≡ m → ⊥)
-same_or_not n m = ⊎_elim (λ e. inl (eqb-true n m e)) (λ e. inr (eqb-false n m e)) (cases_Bool (n == m))
-
 is_noted : (fresh : List ℕ) (job n : ℕ) → n ≡ job → Contains (fresh ++ job ∷ []) n
-is_noted fresh job n e = contains_from_has n (fresh ++ job ∷ []) (has_right n fresh (job ∷ []) (inl e))
-
-stays_noted : (fresh : List ℕ) (job n : ℕ) → Contains fresh n → Contains (fresh ++ job ∷ []) n
-stays_noted fresh job n c = contains_from_has n (fresh ++ job ∷ []) (has_left n fresh (job ∷ []) (has_from_contains n fresh c))
+is_noted fresh job n e = subst (Contains (fresh ++ job ∷ [])) (sym e) (Contains-push fresh job)
 
 abbrev by_job : BoardRow → ℕ
 by_job r = r.job
@@ -50,7 +42,7 @@ module _
     covers_stays q s t board jobs pipelines covers = λ n counted. let was = covers n counted in (was.0, known_stays q s t board n (jobs n) pipelines was.1)
 
     known_more : (q : Noted) (s : State) (board : List BoardRow) (job n : ℕ) → IsKnown q s board n → IsKnown (with_note q job) s board n
-    known_more q s board job n known = ⊎_elim (λ c. inl (stays_noted q.fresh job n c)) (λ w. inr w) known
+    known_more q s board job n known = ⊎_elim (λ c. inl (Contains-append_left q.fresh (job ∷ []) n c)) (λ w. inr w) known
 
     module _ (j : Job) (q : Noted) (s : State) (board : List BoardRow) where
       abbrev with_job : State
@@ -69,7 +61,7 @@ module _
           (was.0, known_other n (λ e. absurd (omega (arith, within, behind, e))) was.1))
           (λ _ n counted.
           let was = covers n counted in
-          (was.0, ⊎_elim (λ e. inl (is_noted q.fresh j.id n e)) (λ other. known_more q with_job board j.id n (known_other n other was.1)) (same_or_not n j.id)))
+          (was.0, ⊎_elim (λ e. inl (is_noted q.fresh j.id n e)) (λ other. known_more q with_job board j.id n (known_other n other was.1)) (cases_eq n j.id)))
 
     covers_pipeline : (p : Pipeline) (q : Noted) (s : State) (board : List BoardRow) → nat_lt q.newest_pipeline p.id ≡ true → IsCovered q s board → IsCovered q (with_record (Record.Pipeline p) s) board
     covers_pipeline p q s board new covers =
@@ -128,12 +120,12 @@ module _
           let was = covered_by_row q s board more n (put_other by_job r n board e) covers counted in
           let l : n ≤ q.newest = was.0 in
           (omega arith, known_more q s more r.job n was.1))
-          (same_or_not n r.job))
+          (cases_eq n r.job))
           (λ out n counted.
           ⊎_elim
           (λ e. absurd (false≢true (sym out ∙ (sym (own n e) ∙ counted))))
           (λ e. covered_by_row q s board more n (put_other by_job r n board e) covers counted)
-          (same_or_not n r.job))
+          (cases_eq n r.job))
 
     covers_rows : (rs : List BoardRow) (q : Noted) (s : State) (board : List BoardRow) → IsCovered q s board → IsCovered (rows_noted order rs q) s (put_rows rs board)
     covers_rows [] q s board covers = covers
@@ -144,7 +136,7 @@ module _
         ⊎_elim
         (λ e. absurd (false≢true (sym counts_none ∙ (sym (ap counts (without_same by_job m n board e)) ∙ counted))))
         (λ e. covered_by_row q s board (without by_job m board) n (without_other by_job m n board e) covers counted)
-        (same_or_not n m)
+        (cases_eq n m)
 
     covers_cleared : (jobs : List ℕ) (q : Noted) (s : State) (board : List BoardRow) → IsCovered q s board → IsCovered q s (without_all by_job jobs board)
     covers_cleared [] q s board covers = covers

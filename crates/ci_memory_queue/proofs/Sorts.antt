@@ -1,12 +1,12 @@
 -- Jobs that are noted are put where they belong, and then what is known of all is asked.
-use Rattle.std.proofs.Common.{◌≡◌, ℕ, ◌+◌, ◌<◌, Bool, true, List, length, drop, slice_index_or, Option, IfSome, Result, Ok, sym, subst, inl, inr, ⊎_elim}
+use Rattle.std.proofs.Common.{◌≡◌, ℕ, ◌+◌, ◌<◌, Bool, true, List, [], length, drop, slice_index_or, Option, IfSome, Result, Ok, sym, subst, inl, inr, ⊎_elim}
 use Rattle.std.proofs.lemmas.List.{drop_more}
 use Rattle.ci_machine_steps.specs.Prelude.{Kept}
 use Rattle.ci_machine.proofs.Keyed.{Has, has_from_contains, contains_from_has}
 use Rattle.ci_store.specs.Prelude.{LoadsBy}
 use Rattle.ci_server_lookups.specs.Prelude.{StoreFault}
 use Rattle.ci_server_lookups.proofs.Loading.{so}
-use Rattle.ci_memory_queue.specs.Notes.{AreKnown}
+use Rattle.ci_memory_queue.specs.Notes.{AreKnown, Noted}
 
 -- one more of the fresh jobs is where it belongs, if it counts
 pub sort_more : (counts : ℕ → Bool) (Before After : ℕ → ℕ → Type 0) (xs : List ℕ) (i d newest low high : ℕ) → i < length xs
@@ -25,6 +25,10 @@ sort_more counts Before After xs i d newest low high within keeps sorted known =
           (λ w. inr (keeps job w))
           was.1,
     )
+
+-- where no job is fresh, all that count are where they belong
+pub all_sorted : (counts : ℕ → Bool) (IsPlaced : ℕ → ℕ → Type 0) (q : Noted) → q.fresh ≡ [] → AreKnown counts IsPlaced q → (job : ℕ) → counts job ≡ true → IsPlaced q.newest_pipeline job
+all_sorted counts IsPlaced q none known job counted = ⊎_elim (λ c. absurd (subst (Has job) none (has_from_contains job q.fresh c))) (λ w. w) (known job counted).1
 
 -- what is remembered or filled, and sorted, is what is known then
 module _ {T : Type 0} (honest : T → Type 0) (holds : T → Kept → Type 0) (leaves : T → Kept → Kept → Type 0) where

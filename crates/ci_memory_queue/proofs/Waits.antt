@@ -1,8 +1,9 @@
 -- Whose turn it is in a resource group tells which of the jobs that ask for it need not wait.
-use Rattle.std.proofs.Common.{◌≡◌, ℕ, ◌<◌, ◌≤◌, Bool, true, false, not, ◌==◌, ◌&&◌, ◌||◌, nat_lt, List, Option, Some, None, is_some, option_map, option_and_then, refl, sym, ap}
-use Rattle.std.proofs.Common.{subst, ◌∙◌, inl, ⊎_elim, arith, eqb-true, eq-eqb, ne_eqb, ltb-true, ltb-false}
+use Rattle.std.proofs.Common.{◌≡◌, ℕ, ◌≤◌, Bool, true, false, not, ◌==◌, ◌&&◌, ◌||◌, nat_lt, List, Option, Some, None, IfSome, is_some, option_map, option_and_then, refl, sym, ap}
+use Rattle.std.proofs.Common.{subst, ◌∙◌, inl, ⊎_elim, arith, eqb-true, eq-eqb, ltb-false}
 use Rattle.std.specs.Str.{bytes_eq}
 use Rattle.std.proofs.lemmas.Bool.{both_ways, cases_Bool}
+use Rattle.std.proofs.lemmas.Bool.Decides.{nat_tests}
 use Rattle.std.proofs.lemmas.Slice.Eq.{bytes_eq-Decides}
 use Rattle.ci_machine_steps.specs.Prelude.{Status, Pending, GroupMode, GroupOrder, OldestFirst, NewestReadyFirst, Holder, Job, Pipeline, WaitingJob, is_free, order_of, goes_before}
 use Rattle.ci_machine_steps.specs.Prelude.{is_in_line, is_behind, holder_at, Kept, job_at, pipeline_at, project_or_none, queued, State, status_for, waits_for, waits_as, waiting}
@@ -22,31 +23,12 @@ use Rattle.ci_memory_queue.specs.Turns.{pipeline_for, is_free_at, IsTurnOf, turn
 
 -- neither of two numbers is lesser where they are the same
 not_less_same : (a b : ℕ) → nat_lt a b ≡ false → not (nat_lt b a) ≡ (a == b)
-not_less_same a b f =
-    let least : b ≤ a = ltb-false a b f in
-    ⊎_elim
-    (λ t. let l : b < a = ltb-true b a t in ap not t ∙ sym (ne_eqb a b (λ e. absurd (omega arith))))
-    (λ g. let most : a ≤ b = ltb-false b a g in ap not g ∙ sym (eq-eqb a b (omega arith)))
-    (cases_Bool (nat_lt b a))
-
-turned : (a b : ℕ) → (a == b) ≡ (b == a)
-turned a b =
-    ⊎_elim
-    (λ t. t ∙ sym (eq-eqb b a (sym (eqb-true a b t))))
-    (λ f. f ∙ sym (ne_eqb b a (λ e. absurd (both_ways (a == b) f (eq-eqb a b (sym e))))))
-    (cases_Bool (a == b))
-
-left : (b : Bool) → (b && true) ≡ false → b ≡ false
-left true f = f
-left false f = f
-
-not_less_itself : (a : ℕ) → nat_lt a a ≡ false
-not_less_itself a = ⊎_elim (λ t. absurd (let l : a < a = ltb-true a a t in omega arith)) (λ f. f) (cases_Bool (nat_lt a a))
+not_less_same a b f = grind (arith, nat_tests)
 
 -- no pipeline is past its own turn
 own_turn : (order : GroupOrder) (n : ℕ) → is_past order (Some n) n ≡ false
-own_turn OldestFirst n = not_less_itself n
-own_turn NewestReadyFirst n = not_less_itself n
+own_turn OldestFirst n = grind (arith, nat_tests)
+own_turn NewestReadyFirst n = grind (arith, nat_tests)
 
 -- ---- what a job asks
 
@@ -58,11 +40,17 @@ pub mapped_from : {A B : Type 0} (f : A → B) (o : Option A) (y : B) → option
 mapped_from f None y e = absurd (cc)
 mapped_from f (Some x) y e = let same : f x ≡ y = cc in (x, (refl, same))
 
--- the job that asks this, with its pipeline
-pub asker : (s : State) (n : ℕ) (asks : Asks) → asks_at s n ≡ Some asks → (j : Job) × ((job_at s n ≡ Some j) × ((p : Pipeline) × ((pipeline_at s j.pipeline ≡ Some p) × (asked_by j p ≡ asks))))
-asker s n asks e =
-    let own = then_from (λ (j : Job). option_map (asked_by j) (pipeline_at s j.pipeline)) (job_at s n) asks e in
-    (own.0, (own.1.0, mapped_from (asked_by own.0) (pipeline_at s own.0.pipeline) asks own.1.1))
+-- the job that something is made of, with its pipeline
+pub maker : {B : Type 0} (f : Job → Pipeline → B) (o : Option Job) (find : ℕ → Option Pipeline) (y : B) → option_and_then (λ (j : Job). option_map (f j) (find j.pipeline)) o ≡ Some y
+    → (j : Job) × (o ≡ Some j) × (p : Pipeline) × (find j.pipeline ≡ Some p) × (f j p ≡ y)
+maker f None find y e = absurd (cc)
+maker f (Some j) find y e = let own = mapped_from (f j) (find j.pipeline) y e in (j, refl, own.0, own.1.0, own.1.1)
+
+-- where pipelines up to a number are found as before, what is made of a job of one of them is as before
+pub made_alike : {B : Type 0} (f : Job → Pipeline → B) (o : Option Job) (newest : ℕ) (before after : ℕ → Option Pipeline) → ((m : ℕ) → m ≤ newest → after m ≡ before m) → IfSome o (λ j. j.pipeline ≤ newest)
+    → option_and_then (λ (j : Job). option_map (f j) (after j.pipeline)) o ≡ option_and_then (λ (j : Job). option_map (f j) (before j.pipeline)) o
+made_alike f None newest before after same within = refl
+made_alike f (Some j) newest before after same within = ap (option_map (f j)) (same j.pipeline within)
 
 -- ---- a job that waits
 
@@ -74,15 +62,15 @@ module _ (s : State) (board : List _) (n : ℕ) (asks : Asks) (group : List ℕ)
   -- a pending job that asks for the group is one of those that wait
   in_waiting : Has (waits asks.project (pipeline_for s n) group) (waiting s board)
   in_waiting =
-      let own = asker s n asks asked in
+      let own = maker asked_by (job_at s n) (pipeline_at s) asks asked in
       let j : Job = own.0 in
-      let there = has_find (λ (x : Job). x.id == n) j s.jobs own.1.0 in
+      let there = has_find (λ (x : Job). x.id == n) j s.jobs own.1 in
       let number : j.id ≡ n = eqb-true j.id n there.1 in
-      let p : Pipeline = own.1.1.0 in
-      let project : project_or_none (pipeline_at s j.pipeline) ≡ asks.project = ap project_or_none own.1.1.1.0 ∙ ap (λ (a : Asks). a.project) own.1.1.1.1 in
-      let grouped : j.options.resource_group ≡ Some group = ap (λ (a : Asks). a.group) own.1.1.1.1 ∙ its in
+      let p : Pipeline = own.2 in
+      let project : project_or_none (pipeline_at s j.pipeline) ≡ asks.project = ap project_or_none own.3 ∙ ap (λ (a : Asks). a.project) own.4 in
+      let grouped : j.options.resource_group ≡ Some group = ap (λ (a : Asks). a.group) own.4 ∙ its in
       let status : status_for board j.id ≡ Pending = ap (status_for board) number ∙ pending_is (status_for board n) pending in
-      let line : pipeline_for s n ≡ j.pipeline = ap pipeline_or_none own.1.0 in
+      let line : pipeline_for s n ≡ j.pipeline = ap pipeline_or_none own.1 in
       let one : Has (waits asks.project (pipeline_for s n) group) (waits_for (project_or_none (pipeline_at s j.pipeline)) j.pipeline true j.options.resource_group) =
       subst (λ (o : Option (List ℕ)). Has (waits asks.project (pipeline_for s n) group) (waits_for (project_or_none (pipeline_at s j.pipeline)) j.pipeline true o)) (sym grouped)
       (inl (λ i. waits (sym project i) (line i) group)) in
@@ -112,7 +100,7 @@ module _ (s : State) (board : List _) (n : ℕ) (asks : Asks) (group : List ℕ)
       (ltb-false (pipeline_for s n) first no_older, not_less_same (pipeline_for s n) first no_older)
 
   pub newest_waits : (first : ℕ) → IsTurn NewestReadyFirst (waiting s board) asks.project group (Some first) → not (is_past NewestReadyFirst (Some first) (pipeline_for s n)) ≡ (pipeline_for s n == first)
-  newest_waits first is = not_less_same first (pipeline_for s n) (left (nat_lt first (pipeline_for s n)) (not_before NewestReadyFirst first is)) ∙ turned first (pipeline_for s n)
+  newest_waits first is = not_less_same first (pipeline_for s n) (grind (arith, not_before NewestReadyFirst first is)) ∙ grind (arith, nat_tests)
 
 -- ---- the turn
 

@@ -1,6 +1,6 @@
 -- Which jobs that wait are remembered, and when that is right. A job waits where it is created or pending: where it counts in
 -- `oldest_first`. It is ready where it is pending: where it counts in `newest_ready_first`.
-use Rattle.std.specs.Prelude.{◌≡◌, ◌⊎◌, ◌≤◌, ℕ, zero, suc, Bool, true, false, ◌&&◌, ◌==◌, List, [], ◌∷◌, find, Contains, Option, Some, None, IfSome}
+use Rattle.std.specs.Prelude.{◌≡◌, ◌⊎◌, ◌≤◌, ℕ, Bool, true, ◌&&◌, ◌==◌, List, [], find, Contains, Option, Some, None, IfSome}
 use Rattle.std.specs.Str.{bytes_eq}
 use Rattle.ci_machine_steps.specs.Prelude.{BoardRow, GroupOrder, OldestFirst, NewestReadyFirst, State, Kept}
 use Rattle.ci_memory_queue.specs.declared.lines.Line.{Line}
@@ -39,12 +39,6 @@ jobs_in NewestReadyFirst l = l.ready.keys
 abbrev pub jobs_of : GroupOrder → Option Line → List ℕ
 jobs_of order None = []
 jobs_of order (Some l) = jobs_in order l
-
--- the first of a list that passes the test has this index
-abbrev pub IsFirstAt : {A : Type 0} → (A → Bool) → List A → ℕ → Type 0
-IsFirstAt test [] i = ⊥
-IsFirstAt test (x ∷ xs) zero = test x ≡ true
-IsFirstAt test (x ∷ xs) (suc i) = (test x ≡ false) × IsFirstAt test xs i
 
 -- ---- what is remembered
 

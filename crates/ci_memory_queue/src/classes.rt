@@ -85,12 +85,7 @@ pub fn put_in(
 fn place_of(classes: &[Class], asks: &Asks) -> Option<usize>
     ensures { IfSome result (λ i. (i < length classes.now) × ((d : Class) → (slice_index_or classes.now i d).asks ≡ asks.now)) }
 {
-    for (i, class) in classes.iter().enumerate() {
-        if is_same(&class.asks, asks) {
-            return Some(i);
-        }
-    }
-    None
+    classes.iter().position(|class| is_same(&class.asks, asks))
 }
 
 fn put_at(classes: &mut Vec<Class>, place: usize, job: u64) -> Result<(), AllocError>

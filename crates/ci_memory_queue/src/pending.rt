@@ -23,16 +23,9 @@ pub fn pending_row<T: Store>(store: &mut T, job: u64) -> Result<Option<BoardRow>
 fn if_pending(row: BoardRow) -> Option<BoardRow>
     ensures { result ≡ (if is_status row.row.status Pending then Some row else None) }
 {
-    if is_pending(row.row.status) {
+    if matches!(row.row.status, Status::Pending) {
         Some(row)
     } else {
         None
     }
-}
-
-/// Is it the status of a pending job?
-fn is_pending(status: Status) -> bool
-    ensures { result ≡ is_status status Pending }
-{
-    matches!(status, Status::Pending)
 }

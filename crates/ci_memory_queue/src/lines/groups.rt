@@ -1,10 +1,11 @@
 //! Jobs that wait are put into the lines of their groups.
 
-ghost use Rattle.std.specs.Prelude.{◌≡◌, ◌<◌, ℕ, Bool, List, None, length, IfSome, IfNone, OnOk};
+ghost use Rattle.std.specs.Prelude.{◌≡◌, ◌<◌, ℕ, Bool, List, Some, None, length, OnOk};
+ghost use Rattle.std.specs.List.{position};
 ghost use Rattle.ci_memory_queue.specs.declared.lines.Line.{Line};
 ghost use Rattle.ci_machine_steps.specs.Prelude.{OldestFirst};
 ghost use Rattle.ci_memory_queue.specs.Places.{counts_at};
-ghost use Rattle.ci_memory_queue.specs.LineCovers.{is_line_of, line_of, IsIn, IsInLine, IsInTurn, IsFirstAt, IsSorted};
+ghost use Rattle.ci_memory_queue.specs.LineCovers.{is_line_of, line_of, IsIn, IsInLine, IsInTurn, IsSorted};
 
 use crate::classes::put;
 use crate::lines::places::{counts, place_of};
@@ -80,15 +81,11 @@ pub fn put_in(
 
 /// The index of the line of a group of a project, if there is one.
 pub fn index_of(lines: &[Line], project: u64, group: &Text) -> Option<usize>
-    ensures some { IfSome result (IsFirstAt (is_line_of project group.now) lines.now) }
-    ensures none { IfNone result (line_of lines.now project group.now ≡ None) }
+    ensures { result ≡ position (is_line_of project group.now) lines.now }
 {
-    for (i, line) in lines.iter().enumerate() {
-        if is_line_of(line, project, group) {
-            return Some(i);
-        }
-    }
-    None
+    lines
+        .iter()
+        .position(|line| is_line_of(line, project, group))
 }
 
 fn is_line_of(line: &Line, project: u64, group: &Text) -> bool
@@ -99,7 +96,7 @@ fn is_line_of(line: &Line, project: u64, group: &Text) -> bool
 
 fn put_at(lines: &mut Vec<Line>, index: usize, is_ready: bool, job: u64) -> Result<(), AllocError>
     requires { index < length lines.old.items }
-    ensures there { OnOk result ((p : ℕ) (g : List ℕ) → IsFirstAt (is_line_of p g) lines.old.items index → IsInLine (line_of lines.new.items p g) is_ready job) }
+    ensures there { OnOk result ((p : ℕ) (g : List ℕ) → position (is_line_of p g) lines.old.items ≡ Some index → IsInLine (line_of lines.new.items p g) is_ready job) }
     ensures keeps { (p : ℕ) (g : List ℕ) (ready : Bool) (n : ℕ) → IsInLine (line_of lines.old.items p g) ready n → IsInLine (line_of lines.new.items p g) ready n }
 {
     put_into(&mut lines[index], is_ready, job)

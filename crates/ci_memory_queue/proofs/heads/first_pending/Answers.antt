@@ -1,6 +1,6 @@
 use Rattle.std.proofs.Common.{Ok, refl, sym, ◌∙◌}
 use Rattle.ci_server_lookups.proofs.Loading.{gives, so}
-use Rattle.ci_memory_queue.proofs.Firsts.{none_ahead, first_is}
+use Rattle.ci_memory_queue.proofs.Ones.{none_ahead, first_is}
 use Rattle.ci_memory_queue.proofs.heads.first_pending.Goals as goal
 
 -- the first isn't ahead

@@ -1,4 +1,4 @@
-use Rattle.ci_memory_queue.proofs.Firsts.{up_to_more}
+use Rattle.ci_memory_queue.proofs.Ones.{up_to_more}
 use Rattle.ci_memory_queue.proofs.heads.is_any_ahead.Goals as goal
 
 -- where the least isn't ahead, none is

@@ -1,11 +1,11 @@
 use Rattle.ci_server_lookups.proofs.Loading.{stays, says}
-use Rattle.ci_memory_queue.proofs.Ones.{behind_before, asks_other, offer_ahead}
+use Rattle.ci_memory_queue.proofs.Ones.{asks_other, offer_ahead}
 use Rattle.ci_memory_queue.proofs.heads.offer_ahead.Goals as goal
 
 pub returns-then-not-is_ahead : goal.returns-then-not-is_ahead
 returns-then-not-is_ahead g c =
     stays g.T.Store.honest g.T.Store.holds g.T.Store.leaves _ _ _ (λ k held. g.met.T.Store.held_is_left _ k held)
-    (λ k there. behind_before k c.args.asks.now c.args.job.now c.args.before.now (c.is_ahead.ensures.behind c.if-not-is_ahead.true))
+    (λ k there wanted. c.is_ahead.ensures.behind c.if-not-is_ahead.true)
 
 pub returns-then-not-may_ask : goal.returns-then-not-may_ask
 returns-then-not-may_ask g c =

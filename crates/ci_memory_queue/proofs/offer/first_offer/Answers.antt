@@ -6,7 +6,7 @@ use Rattle.ci_memory_queue.specs.declared.queue.Class.{Class}
 use Rattle.ci_memory_queue.specs.Known.{Known}
 use Rattle.ci_memory_queue.specs.Covers.{Covers, IsRight}
 use Rattle.ci_memory_queue.proofs.Commits.{known}
-use Rattle.ci_memory_queue.proofs.Eligible.{searched}
+use Rattle.ci_memory_queue.proofs.Eligible.{still_covers, best_offered}
 use Rattle.ci_memory_queue.proofs.Sorts.{sorted_then}
 use Rattle.ci_memory_queue.proofs.offer.first_offer.Goals as goal
 
@@ -21,8 +21,12 @@ returns g c =
     c.take.ensures.value c.in_ok-classes.was c.in_ok-notes.was c.known_or_filled.ensures (λ k covers. subst (λ (x : Known). Covers x k.state k.board) (sym c.classes.view_is) covers) c.sort_fresh.ensures)
     (loads_both g.T.Store.honest g.T.Store.holds g.T.Store.leaves _ _ c.best_of.result c.best_of.ensures.keeps c.best_of.ensures.best)
     (λ k sorted its right.
-    let done = searched k c.sort_fresh.new.sorted.items c.as_mut_slice.result.now classes notes c.as_mut_slice.ensures.value (sorted right) its.0 in
-    (done.0, λ kept. done.1 kept c.args.runner.now c.in_ok-found.found (its.1 kept))) in
+    let is = sorted right in
+    let sorted_in = c.sort_fresh.new.sorted.items in
+    let given = c.as_mut_slice.result.now in (
+      still_covers k sorted_in given classes notes c.as_mut_slice.ensures.value is.0 is.1 its.0,
+      λ kept. best_offered k sorted_in given classes notes c.as_mut_slice.ensures.value is.0 is.1 its.0 kept c.args.runner.now c.in_ok-found.found (its.1 kept),
+    )) in
     record {
       offered = says g.T.Store.honest g.T.Store.holds g.T.Store.leaves _ _ _ _ all (λ k found is both right. (both right).1);
       right = λ h k held right. subst (λ (cs : List Class). Covers (known cs notes) k.state k.board) (sym (with_items_is c.sort_fresh.new.sorted classes (omega arith))) (all.answered h k held right).0;

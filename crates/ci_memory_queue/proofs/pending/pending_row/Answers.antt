@@ -1,7 +1,7 @@
 use Rattle.std.proofs.Common.{sym, subst, ◌∙◌}
 use Rattle.ci_memory_queue.specs.Offers.{IsPendingRow}
 use Rattle.ci_server_lookups.proofs.Loading.{gives}
-use Rattle.ci_memory_queue.proofs.Firsts.{pending_by}
+use Rattle.ci_memory_queue.proofs.Ones.{pending_by}
 use Rattle.ci_memory_queue.proofs.pending.pending_row.Goals as goal
 
 -- the row that was found says whether the job is pending

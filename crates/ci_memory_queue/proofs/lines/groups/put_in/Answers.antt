@@ -1,10 +1,12 @@
-use Rattle.std.proofs.Common.{subst, List}
+use Rattle.std.proofs.Common.{◌≡◌, List, None, sym, subst, ◌∙◌}
+use Rattle.std.specs.List.{position}
 use Rattle.ci_memory_queue.specs.declared.lines.Line.{Line}
-use Rattle.ci_memory_queue.specs.LineCovers.{is_line_of, IsFirstAt}
-use Rattle.ci_memory_queue.proofs.Finds.{first_within}
+use Rattle.ci_memory_queue.specs.LineCovers.{is_line_of}
+use Rattle.ci_memory_queue.proofs.Finds.{none_found}
 use Rattle.ci_memory_queue.proofs.lines.groups.put_in.Goals as goal
 
-pub put_at-requires : goal.put_at-requires
-put_at-requires c =
-    first_within (is_line_of c.args.project c.args.group) c.args.lines.now.items c.in-Some.index
-    (subst (λ (ls : List Line). IsFirstAt (is_line_of c.args.project c.args.group) ls c.in-Some.index) c.as_slice.ensures.value c.in-Some.ensures.some)
+-- there is no line of the group
+pub begin-requires : goal.begin-requires
+begin-requires c =
+    let its = is_line_of c.args.project c.args.group in
+    none_found its c.args.lines.now.items (subst (λ (ls : List Line). position its ls ≡ None) c.as_slice.ensures.value (sym c.index_of.ensures ∙ c.in-None.is))

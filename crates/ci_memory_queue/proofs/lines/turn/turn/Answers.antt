@@ -4,7 +4,7 @@ use Rattle.ci_server_lookups.specs.Prelude.{IsKept, IsTurn}
 use Rattle.ci_server_lookups.proofs.Loading.{says, so, loads_both}
 use Rattle.ci_memory_queue.specs.KnownLines.{Known}
 use Rattle.ci_memory_queue.specs.LineCovers.{Covers, IsRight}
-use Rattle.ci_memory_queue.proofs.LineCommits.{known}
+use Rattle.ci_memory_queue.proofs.Commits.{known_lines}
 use Rattle.ci_memory_queue.proofs.Covered.{still_covers, tells_turn}
 use Rattle.ci_memory_queue.proofs.Sorts.{sorted_then}
 use Rattle.ci_memory_queue.proofs.lines.turn.turn.Goals as goal
@@ -15,14 +15,14 @@ returns g c =
     let lines = c.first_among.new.lines.items in
     let notes = c.in_ok-notes.notes in
     let all = so g.T.Store.honest g.T.Store.holds g.T.Store.leaves
-    (λ k turn. IsRight c.args.lines.now k → Covers (known lines notes) k.state k.board × (IsKept k → IsTurn c.args.order (waiting k.state k.board) c.args.project c.args.group.now turn)) _ _ _ (Ok tt) tt c.first_among.result c.in_ok-turn.turn c.in_ok-turn.turn refl c.in_ok-turn.was
+    (λ k turn. IsRight c.args.lines.now k → Covers (known_lines lines notes) k.state k.board × (IsKept k → IsTurn c.args.order (waiting k.state k.board) c.args.project c.args.group.now turn)) _ _ _ (Ok tt) tt c.first_among.result c.in_ok-turn.turn c.in_ok-turn.turn refl c.in_ok-turn.was
     (sorted_then g.T.Store.honest g.T.Store.holds g.T.Store.leaves (λ k q. Covers q k.state k.board) _ _ c.args.lines.now c.take.result _ _ _ c.known_or_filled.result c.in_ok-known.field-0 c.sort_fresh.result notes
     c.take.ensures.value c.in_ok-known.was c.in_ok-notes.was c.known_or_filled.ensures (λ k covers. subst (λ (x : Known). Covers x k.state k.board) (sym c.known.view_is) covers) c.sort_fresh.ensures)
     (loads_both g.T.Store.honest g.T.Store.holds g.T.Store.leaves _ _ c.first_among.result c.first_among.ensures.keeps c.first_among.ensures.first)
     (λ k sorted its right.
-    let all : Known = known c.sort_fresh.new.sorted.items notes in
     let is = sorted right in
-    (still_covers k all is.0 is.1 lines its.0, λ kept. tells_turn k all is.0 is.1 lines its.0 kept c.args.order c.args.project c.args.group.now c.in_ok-turn.turn its.1)) in
+    let all = c.sort_fresh.new.sorted.items in
+    (still_covers k all lines notes is.0 is.1 its.0, λ kept. tells_turn k all lines notes is.0 is.1 its.0 kept c.args.order c.args.project c.args.group.now c.in_ok-turn.turn its.1)) in
     record {
       turn = says g.T.Store.honest g.T.Store.holds g.T.Store.leaves _ _ _ _ all (λ k turn is both right. (both right).1);
       right = λ h k held right. (all.answered h k held right).0;
