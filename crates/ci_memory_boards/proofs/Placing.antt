@@ -1,28 +1,17 @@
 -- Records put among others by their numbers, and what passes a test of them.
 use Rattle.std.proofs.Common.{◌≡◌, ℕ, suc, ◌+◌, ◌≤◌, nat_lt, ◌==◌, ◌&&◌, Bool, true, false, cond, not, List, [], ◌∷◌, insert, filter, Ordering, nat_cmp, is_eq, is_lt, refl, sym}
-use Rattle.std.proofs.Common.{ap, ◌∙◌, inl, ⊎_elim, arith}
+use Rattle.std.proofs.Common.{ap, ◌∙◌, inl, arith}
 use Rattle.std.specs.List.{prefix_len}
-use Rattle.std.proofs.lemmas.Bool.{cond-true, cond-false, cases_Bool}
 use Rattle.std.proofs.lemmas.Bool.Decides.{nat_tests}
 use Rattle.ci_machine_steps.specs.Prelude.{placed, others, put}
 use Rattle.ci_machine.proofs.Filters.{filter_both, unlike}
 use Rattle.ci_machine.proofs.Keyed.{Has, Rising, rising_from, rising_filter, has_filter, less, not_less, filter_same}
 
 not_lt : (a b : ℕ) → b ≤ a → is_lt (nat_cmp a b) ≡ false
-not_lt a b h = ⊎_elim (λ t. absurd (let l = less a b t in omega (arith, l, h))) (λ f. f) (cases_Bool (is_lt (nat_cmp a b)))
+not_lt a b h = grind (arith, less a b)
 
 lt_test : (a b : ℕ) → nat_lt a b ≡ is_lt (nat_cmp a b)
-lt_test a b =
-    ⊎_elim
-    (λ t. let l = less a b t in let m : nat_lt a b ≡ true = grind (arith, nat_tests, l) in m ∙ sym t)
-    (λ f. let l = not_less a b f in let m : nat_lt a b ≡ false = grind (arith, nat_tests, l) in m ∙ sym f)
-    (cases_Bool (is_lt (nat_cmp a b)))
-
-swap : (a b : Bool) → (a && b) ≡ (b && a)
-swap true true = refl
-swap true false = refl
-swap false true = refl
-swap false false = refl
+lt_test a b = grind (arith, nat_tests, less a b, not_less a b)
 
 module _ {A : Type 0} (id : A → ℕ) where
   abbrev by : A → A → Ordering
@@ -50,33 +39,22 @@ module _ {A : Type 0} (id : A → ℕ) where
 
   placed_first : (x : A) (xs : List A) → ((y : A) → Has y xs → id x ≤ id y) → placed by x xs ≡ x ∷ xs
   placed_first x [] low = refl
-  placed_first x (z ∷ zs) low = cond-false (is_lt (by z x)) (z ∷ placed by x zs) (x ∷ z ∷ zs) (not_lt (id z) (id x) (low z (inl refl)))
+  placed_first x (z ∷ zs) low = grind (arith, not_lt (id z) (id x) (low z (inl refl)))
 
   filter_placed : (test : A → Bool) (x : A) (low : ℕ) (xs : List A) → Rising id low xs → test x ≡ true → filter test (placed by x xs) ≡ placed by x (filter test xs)
-  filter_placed test x low [] r t = cond-true (test x) (x ∷ []) [] t
-  filter_placed test x low (z ∷ zs) r t = ⊎_elim (behind (filter_placed test x (id z + 1) zs r.1 t)) before (cases_Bool (is_lt (by z x)))
-    where
-      either : (b : Bool) → is_lt (by z x) ≡ true → cond b (z ∷ placed by x (filter test zs)) (placed by x (filter test zs)) ≡ placed by x (cond b (z ∷ filter test zs) (filter test zs))
-      either true e = sym (cond-true (is_lt (by z x)) (z ∷ placed by x (filter test zs)) (x ∷ z ∷ filter test zs) e)
-      either false e = refl
-
-      behind : filter test (placed by x zs) ≡ placed by x (filter test zs) → is_lt (by z x) ≡ true → filter test (placed by x (z ∷ zs)) ≡ placed by x (filter test (z ∷ zs))
-      behind more e =
-          ap (filter test) (cond-true (is_lt (by z x)) (z ∷ placed by x zs) (x ∷ z ∷ zs) e)
-          ∙ ap (λ l. cond (test z) (z ∷ l) l) more
-          ∙ either (test z) e
-
-      before : is_lt (by z x) ≡ false → filter test (placed by x (z ∷ zs)) ≡ placed by x (filter test (z ∷ zs))
-      before e =
-          let least = not_less (id z) (id x) e in
-          ap (filter test) (cond-false (is_lt (by z x)) (z ∷ placed by x zs) (x ∷ z ∷ zs) e)
-          ∙ cond-true (test x) (x ∷ filter test (z ∷ zs)) (filter test (z ∷ zs)) t
-          ∙ sym (placed_first x (filter test (z ∷ zs)) (λ y h. let from = rising_from id y (id z) (z ∷ zs) (omega arith, r.1) (has_filter test y (z ∷ zs) h).0 in omega (arith, from, least)))
+  filter_placed test x low [] r t = grind arith
+  filter_placed test x low (z ∷ zs) r t =
+      grind (
+        arith,
+        filter_placed test x (id z + 1) zs r.1 t,
+        λ (e : is_lt (by z x) ≡ false). placed_first x (filter test (z ∷ zs))
+            (λ y h. let from = rising_from id y (id z) (z ∷ zs) (omega arith, r.1) (has_filter test y (z ∷ zs) h).0 in omega (arith, from, not_less (id z) (id x) e)),
+      )
 
   filter_others : (test : A → Bool) (x : A) (xs : List A) → filter test (others by x xs) ≡ others by x (filter test xs)
   filter_others test x xs =
       filter_both (λ y. not (is_eq (by y x))) test (λ y. not (is_eq (by y x)) && test y) xs (λ y. refl)
-      ∙ sym (filter_both test (λ y. not (is_eq (by y x))) (λ y. not (is_eq (by y x)) && test y) xs (λ y. swap (not (is_eq (by y x))) (test y)))
+      ∙ sym (filter_both test (λ y. not (is_eq (by y x))) (λ y. not (is_eq (by y x)) && test y) xs (λ y. grind arith))
 
   -- what passes where a record that passes is put, in a list in order: it is put among those that passed
   pub filter_put : (test : A → Bool) (x : A) (xs : List A) → Rising id 0 xs → test x ≡ true → filter test (put by x xs) ≡ put by x (filter test xs)

@@ -1,13 +1,15 @@
 -- What changes leave as it is remembered.
-use Rattle.std.proofs.Common.{◌≡◌, ◌==◌, ◌||◌, ℕ, Bool, true, false, not, List, [], ◌∷◌, filter, map, Option, Some, None, unwrap_or, Ordering, Less, Equal, Greater, nat_cmp, is_eq}
-use Rattle.std.proofs.Common.{refl, sym, ap, subst, ◌∙◌, ⊎_elim, eq-eqb, arith}
+use Rattle.std.proofs.Common.{◌≡◌, ◌==◌, ℕ, Bool, true, false, not, List, [], ◌∷◌, filter, map, Some, None, nat_cmp, is_eq}
+use Rattle.std.proofs.Common.{refl, sym, ap, subst, ◌∙◌, eq-eqb, arith}
 use Rattle.std.specs.List.{list_any}
 use Rattle.std.specs.List.Sorted.{IsStrictlySortedBy}
 use Rattle.std.specs.Ordering.{ordering_then}
-use Rattle.std.proofs.lemmas.Bool.{cond_both, false≢true}
+use Rattle.std.proofs.lemmas.Bool.{both_ways, false≢true, or_parts}
+use Rattle.std.proofs.lemmas.Option.{cond_some, same_Some}
 use Rattle.ci_machine_steps.specs.Prelude.{IndexChange, Key, Record, RowChange, Put, Remove, Attempt, BoardRow, Job, Need, Kept, row_cmp, put_rows, cleared, written, is_within}
 use Rattle.ci_machine_steps.specs.Prelude.{needs_within, attempts_within, rows_within, State, job_cmp, need_cmp, attempt_cmp, put, without, without_all, changed, applied, jobs_of}
 use Rattle.ci_machine.proofs.Filters.{filter_implied}
+use Rattle.ci_machine.proofs.Tests.{has_any}
 use Rattle.ci_machine.proofs.Keyed.{Has, filter_has, has_from_all, rising_put, rising_filter, unequal}
 use Rattle.ci_machine_steps.proofs.Sound.{ascend_from_rising, rising_from_ascend}
 use Rattle.ci_server_lookups.proofs.Changes.{state_stays, board_stays}
@@ -17,44 +19,16 @@ use Rattle.ci_memory_boards.specs.Sheets.{owns, own_job, touches, attempt_put}
 use Rattle.ci_server_lookups.specs.Prelude.{IsRight}
 use Rattle.ci_memory_boards.proofs.Lists.{other_put}
 
--- of two truths of which neither holds
-first : (a b : Bool) → (a || b) ≡ false → a ≡ false
-first true b e = absurd (false≢true (sym e))
-first false b e = refl
-
-later : (a b : Bool) → (a || b) ≡ false → b ≡ false
-later true b e = absurd (false≢true (sym e))
-later false b e = e
-
 -- a number between two others isn't one that isn't
-apart : (low high a b : ℕ) → is_within low high a ≡ true → is_within low high b ≡ false → a ≡ b → ⊥
-apart low high a b inside outside same = false≢true (sym outside ∙ (ap (is_within low high) (sym same) ∙ inside))
-
 pub key_apart : (low high a b : ℕ) → is_within low high a ≡ true → is_within low high b ≡ false → not (is_eq (nat_cmp a b)) ≡ true
-key_apart low high a b inside outside = unequal a b (apart low high a b inside outside)
+key_apart low high a b inside outside = unequal a b (λ same. false≢true (sym outside ∙ (ap (is_within low high) (sym same) ∙ inside)))
 
 then_apart : (low high a b : ℕ) (p q : ℕ) → is_within low high a ≡ true → is_within low high b ≡ false → not (is_eq (ordering_then (nat_cmp a b) (nat_cmp p q))) ≡ true
-then_apart low high a b p q inside outside = either (nat_cmp a b) refl
-  where
-    either : (o : Ordering) → nat_cmp a b ≡ o → not (is_eq (ordering_then o (nat_cmp p q))) ≡ true
-    either Less e = refl
-    either Greater e = refl
-    either Equal e = absurd (false≢true (sym (ap (λ x. not (is_eq x)) e) ∙ key_apart low high a b inside outside))
+then_apart low high a b p q inside outside = grind (arith, key_apart low high a b inside outside)
 
 -- one of a list has a number, or none has
 none_has : (n : ℕ) (a : Attempt) (xs : List Attempt) → list_any (λ x. x.id == n) xs ≡ false → Has a xs → not (is_eq (nat_cmp a.id n)) ≡ true
-none_has n a [] none has = absurd has
-none_has n a (x ∷ xs) none has =
-    ⊎_elim
-    (λ e. unequal a.id n (λ same. false≢true (sym (first (x.id == n) (list_any (λ y. y.id == n) xs) none) ∙ eq-eqb x.id n (ap (λ (y : Attempt). y.id) (sym e) ∙ same))))
-    (λ m. none_has n a xs (later (x.id == n) (list_any (λ y. y.id == n) xs) none) m)
-    has
-
-some_same : {A : Type 0} {a b : A} → Some a ≡ Some b → a ≡ b
-some_same {A} {a} e = ap (λ (o : Option A). unwrap_or o a) e
-
-some_not_none : {A : Type 0} {a : A} → Some a ≡ None → ⊥
-some_not_none e = cc
+none_has n a xs none has = unequal a.id n (λ same. both_ways (list_any (λ x. x.id == n) xs) none (has_any (λ (x : Attempt). x.id == n) a xs has (eq-eqb a.id n same)))
 
 -- ---- one change
 
@@ -92,9 +66,9 @@ module _ (m : Sheet) (k : Kept) (right : IsRight m k) where
   pub stays : (c : RowChange) → touches m c ≡ false → attempt_put c ≡ None → IsRight m (record k { state = changed c k.state })
   stays (Put (Record.Job x)) e never =
       with_jobs (put job_cmp x k.state.jobs)
-      (other_put job_cmp its x k.state.jobs (first (its x) (is_within m.first m.last x.id) e) (λ y has is. key_apart m.first m.last y.id x.id (inside y has is) (later (its x) (is_within m.first m.last x.id) e)))
+      (other_put job_cmp its x k.state.jobs (or_parts (its x) (is_within m.first m.last x.id) e).0 (λ y has is. key_apart m.first m.last y.id x.id (inside y has is) (or_parts (its x) (is_within m.first m.last x.id) e).1))
   stays (Put (Record.Need x)) e never = with_needs (put need_cmp x k.state.needs) (other_put need_cmp of_need x k.state.needs e (λ y has is. then_apart m.first m.last y.job x.job y.pred x.pred is e))
-  stays (Put (Record.Attempt x)) e never = absurd (some_not_none never)
+  stays (Put (Record.Attempt x)) e never = absurd (cc)
   stays (Remove (Key.Job n)) e never =
       with_jobs (without (λ j. j.id) n k.state.jobs) (filter_implied its (λ y. not (is_eq (nat_cmp y.id n))) k.state.jobs (λ y has is. key_apart m.first m.last y.id n (inside y has is) e))
   stays (Remove (Key.Need n p)) e never =
@@ -109,17 +83,13 @@ module _ (m : Sheet) (k : Kept) (right : IsRight m k) where
 
 -- the change that puts an attempt
 pub put_of : (c : RowChange) (a : Attempt) → attempt_put c ≡ Some a → c ≡ Put (Record.Attempt a)
-put_of (Put (Record.Attempt x)) a e = ap (λ (o : Attempt). Put (Record.Attempt o)) (some_same e)
+put_of (Put (Record.Attempt x)) a e = ap (λ (o : Attempt). Put (Record.Attempt o)) (same_Some x a e)
 put_of _ a e = cc
 
 -- a job of the sheet's own that the change puts
 pub own_job_of : (m : Sheet) (c : RowChange) (j : Job) → own_job m c ≡ Some j → (c ≡ Put (Record.Job j)) × (owns m j ≡ true)
-own_job_of m (Put (Record.Job x)) j e =
-    cond_both (owns m x) (Some x) None (λ o. o ≡ Some j → (Put (Record.Job x) ≡ Put (Record.Job j)) × (owns m j ≡ true))
-    (λ its is. let same : x ≡ j = some_same is in (ap (λ (y : Job). Put (Record.Job y)) same, ap (owns m) (sym same) ∙ its))
-    (λ _ is. absurd (some_not_none (sym is)))
-    e
-own_job_of m _ j e = absurd (some_not_none (sym e))
+own_job_of m (Put (Record.Job x)) j e = let w = cond_some (owns m x) x j e in (ap (λ (y : Job). Put (Record.Job y)) w.1, ap (owns m) (sym w.1) ∙ w.0)
+own_job_of m _ j e = absurd (cc)
 
 -- ---- the order of what is kept
 
@@ -143,40 +113,40 @@ job_id j = j.id
 abbrev by_job : BoardRow → ℕ
 by_job r = r.job
 
-abbrev pub RowsAscend : List BoardRow → Type 0
-RowsAscend rows = IsStrictlySortedBy nat_cmp (map (λ r. r.job) rows)
-
-pub rows_ascend : (rs : List BoardRow) (board : List BoardRow) → RowsAscend board → RowsAscend (put_rows rs board)
-rows_ascend [] board a = a
-rows_ascend (x ∷ rs) board a = rows_ascend rs (put row_cmp x board) (put_ascends by_job x board a)
-
-pub cleared_ascend : (jobs : List ℕ) (board : List BoardRow) → RowsAscend board → RowsAscend (without_all by_job jobs board)
+cleared_ascend : (jobs : List ℕ) (board : List BoardRow) → Ascend by_job board → Ascend by_job (without_all by_job jobs board)
 cleared_ascend [] board a = a
 cleared_ascend (n ∷ jobs) board a = cleared_ascend jobs (without by_job n board) (without_ascends by_job n board a)
 
 pub cleared_in_order : (k : Kept) (gone : List ℕ) → InOrder k → InOrder (cleared gone k)
 cleared_in_order k gone o = record { jobs = o.jobs; attempts = o.attempts; rows = cleared_ascend gone k.board o.rows }
 
-one_in_order : (k : Kept) (c : RowChange) → InOrder k → InOrder (record k { state = changed c k.state })
+pub one_in_order : (k : Kept) (c : RowChange) → InOrder k → InOrder (record k { state = changed c k.state })
 one_in_order k (Put (Record.Job x)) o = record { jobs = put_ascends job_id x k.state.jobs o.jobs; attempts = o.attempts; rows = o.rows }
 one_in_order k (Put (Record.Attempt x)) o = record { jobs = o.jobs; attempts = put_ascends by_id x k.state.attempts o.attempts; rows = o.rows }
 one_in_order k (Remove (Key.Job n)) o = record { jobs = without_ascends job_id n k.state.jobs o.jobs; attempts = o.attempts; rows = o.rows }
 one_in_order k (Remove (Key.Attempt n)) o = record { jobs = o.jobs; attempts = without_ascends by_id n k.state.attempts o.attempts; rows = o.rows }
 one_in_order k _ o = record { jobs = o.jobs; attempts = o.attempts; rows = o.rows }
 
-pub records_in_order : (k : Kept) (cs : List RowChange) → InOrder k → InOrder (record k { state = applied cs k.state })
+pub row_in_order : (k : Kept) (r : BoardRow) → InOrder k → InOrder (record k { board = put row_cmp r k.board })
+row_in_order k r o = record { jobs = o.jobs; attempts = o.attempts; rows = put_ascends by_job r k.board o.rows }
+
+records_in_order : (k : Kept) (cs : List RowChange) → InOrder k → InOrder (record k { state = applied cs k.state })
 records_in_order k [] o = o
 records_in_order k (c ∷ cs) o = records_in_order (record k { state = changed c k.state }) cs (one_in_order k c o)
 
+rows_in_order : (k : Kept) (rs : List BoardRow) → InOrder k → InOrder (record k { board = put_rows rs k.board })
+rows_in_order k [] o = o
+rows_in_order k (r ∷ rs) o = rows_in_order (record k { board = put row_cmp r k.board }) rs (row_in_order k r o)
+
 pub written_in_order : (k : Kept) (cs : List RowChange) (rs : List BoardRow) (is : List IndexChange) (gone : List ℕ) → InOrder k → InOrder (written cs rs is (cleared gone k))
 written_in_order k cs rs is gone o =
-    let all = records_in_order (cleared gone k) cs (cleared_in_order k gone o) in
-    let board = put_rows rs (cleared gone k).board in
-    let mid : Kept = record (cleared gone k) { state = applied cs k.state; board = board } in
+    let before : Kept = record (cleared gone k) { state = applied cs k.state } in
+    let mid : Kept = record before { board = put_rows rs before.board } in
+    let all = rows_in_order before rs (records_in_order (cleared gone k) cs (cleared_in_order k gone o)) in
     record {
       jobs = subst (λ (s : State). Ascend job_id s.jobs) (sym (state_stays is mid)) all.jobs;
       attempts = subst (λ (s : State). Ascend by_id s.attempts) (sym (state_stays is mid)) all.attempts;
-      rows = subst RowsAscend (sym (board_stays is mid)) (rows_ascend rs (cleared gone k).board all.rows);
+      rows = subst (Ascend by_job) (sym (board_stays is mid)) all.rows;
     }
 
 -- ---- rows that go
@@ -184,8 +154,8 @@ written_in_order k cs rs is gone o =
 pub rows_gone : (low high : ℕ) (jobs : List ℕ) (board : List BoardRow) → list_any (is_within low high) jobs ≡ false → rows_within low high (without_all by_job jobs board) ≡ rows_within low high board
 rows_gone low high [] board none = refl
 rows_gone low high (n ∷ jobs) board none =
-    rows_gone low high jobs (without by_job n board) (later (is_within low high n) (list_any (is_within low high) jobs) none)
-    ∙ filter_implied (λ r. is_within low high r.job) (λ r. not (is_eq (nat_cmp r.job n))) board (λ y has is. key_apart low high y.job n is (first (is_within low high n) (list_any (is_within low high) jobs) none))
+    rows_gone low high jobs (without by_job n board) (or_parts (is_within low high n) (list_any (is_within low high) jobs) none).1
+    ∙ filter_implied (λ r. is_within low high r.job) (λ r. not (is_eq (nat_cmp r.job n))) board (λ y has is. key_apart low high y.job n is (or_parts (is_within low high n) (list_any (is_within low high) jobs) none).0)
 
 pub right_cleared : (m : Sheet) (k : Kept) (gone : List ℕ) → list_any (is_within m.first m.last) gone ≡ false → IsRight m k → IsRight m (cleared gone k)
 right_cleared m k gone none right =

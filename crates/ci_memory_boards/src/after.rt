@@ -4,12 +4,13 @@ ghost use Rattle.std.specs.Prelude.{◌≡◌, ◌==◌, ℕ, List, None, map, I
 ghost use Rattle.std.specs.List.{list_any};
 ghost use Rattle.std.specs.Ordering.{nat_cmp};
 ghost use Rattle.std.specs.List.Sorted.{IsStrictlySortedBy};
-ghost use Rattle.ci_machine_steps.specs.Prelude.{IndexChange, Kept, row_cmp, put_rows, cleared, written, is_within, job_cmp, attempt_cmp, put, with_record, changed, applied};
+ghost use Rattle.ci_machine_steps.specs.Prelude.{IndexChange, Kept, row_cmp, cleared, written, is_within, job_cmp, attempt_cmp, put, with_record, changed};
 ghost use Rattle.ci_machine.specs.declared.change.Record.TheVariants as row;
 ghost use Rattle.ci_memory_boards.specs.Order.{InOrder};
 ghost use Rattle.ci_memory_boards.specs.Sheets.{attempt_put};
 ghost use Rattle.ci_server_lookups.specs.Prelude.{IsRight};
 
+use crate::follows::{Follows, after_changes, after_rows};
 use crate::puts::put_record;
 use crate::touch::{own_job, touches};
 use ci_machine::change::{Record, RowChange};
@@ -39,14 +40,20 @@ fn has_any(sheet: &Sheet, jobs: &[u64]) -> bool
     jobs.iter().any(|job| sheet.has_within(*job))
 }
 
-fn after_changes(sheet: Sheet, changes: &[RowChange]) -> Option<Sheet>
-    ensures { IfSome result (λ m. (k : Kept) → InOrder k → IsRight sheet k → IsRight m (record k { state = applied changes.now k.state })) }
-{
-    let mut sheet = sheet;
-    for change in changes {
+impl Follows for Sheet {
+    ghost IsRightFor = { λ m k. IsRight m k × InOrder k };
+
+    fn noted(self, change: &RowChange) -> Option<Sheet> {
+        let mut sheet = self;
         note_change(&mut sheet, change)?;
+        Some(sheet)
     }
-    Some(sheet)
+
+    fn noted_row(self, row: BoardRow) -> Option<Sheet> {
+        let mut sheet = self;
+        note_row(&mut sheet, row)?;
+        Some(sheet)
+    }
 }
 
 fn note_change(sheet: &mut Sheet, change: &RowChange) -> Option<()>
@@ -101,16 +108,6 @@ fn note_attempt(sheet: &mut Sheet, attempt: &Attempt) -> Option<()>
         return None;
     }
     Some(())
-}
-
-fn after_rows(sheet: Sheet, rows: &[BoardRow]) -> Option<Sheet>
-    ensures { IfSome result (λ m. (k : Kept) → IsStrictlySortedBy nat_cmp (map (λ r. r.job) k.board) → IsRight sheet k → IsRight m (record k { board = put_rows rows.now k.board })) }
-{
-    let mut sheet = sheet;
-    for row in rows {
-        note_row(&mut sheet, *row)?;
-    }
-    Some(sheet)
 }
 
 fn note_row(sheet: &mut Sheet, row: BoardRow) -> Option<()>

@@ -12,7 +12,7 @@ ghost use Rattle.ci_server_lookups.specs.Prelude.{IsRight};
 
 use crate::after::sheet_after;
 use crate::fresh::Fresh;
-use crate::one::{attempt_in, job_in, row_in};
+use crate::one::{around, attempt_with, copy_of_attempt, copy_of_job, job_with, row_with, trying};
 use crate::room;
 use ci_machine::change::RowChange;
 use ci_machine::records::{Attempt, BoardRow, Job, Need};
@@ -72,74 +72,72 @@ impl Boards {
         self.fresh = Some(fresh);
     }
 
+    fn known(&self) -> &[Sheet]
+        ensures { (k : Kept) → AreRight self.now k → All (λ m. IsRight m k) result.now }
+    {
+        match &self.sheets {
+            Some(sheets) => sheets.as_slice(),
+            None => &[],
+        }
+    }
+
     /// The jobs of a pipeline, by number, where they are remembered and there is memory for their copies.
     pub fn jobs_of(&self, pipeline: u64) -> Option<Vec<Job>>
         ensures { IfSome result (λ jobs. (k : Kept) → AreRight self.now k → jobs.items ≡ jobs_of k.state pipeline) }
     {
-        match &self.sheets {
-            Some(sheets) => jobs_in(sheets.as_slice(), pipeline),
-            None => None,
-        }
+        let sheet = of_pipeline(self.known(), pipeline)?;
+        copies_of_jobs(&sheet.jobs)
     }
 
     /// What the jobs between two numbers wait for, where it is remembered and there is memory for the copies.
     pub fn needs_within(&self, first: u64, last: u64) -> Option<Vec<Need>>
         ensures { IfSome result (λ needs. (k : Kept) → AreRight self.now k → needs.items ≡ needs_within first last k.state.needs) }
     {
-        match &self.sheets {
-            Some(sheets) => needs_in(sheets.as_slice(), first, last),
-            None => None,
-        }
+        let sheet = between(self.known(), first, last)?;
+        copies_of_needs(&sheet.needs)
     }
 
     /// The attempts of the jobs between two numbers, by number, where they are remembered and there is memory for their copies.
     pub fn attempts_within(&self, first: u64, last: u64) -> Option<Vec<Attempt>>
         ensures { IfSome result (λ attempts. (k : Kept) → AreRight self.now k → attempts.items ≡ attempts_within first last k.state.attempts) }
     {
-        match &self.sheets {
-            Some(sheets) => attempts_in(sheets.as_slice(), first, last),
-            None => None,
-        }
+        let sheet = between(self.known(), first, last)?;
+        copies_of_attempts(&sheet.attempts)
     }
 
     /// The rows of the jobs between two numbers, by job, where they are remembered and there is memory for their copies.
     pub fn rows_within(&self, first: u64, last: u64) -> Option<Vec<BoardRow>>
         ensures { IfSome result (λ rows. (k : Kept) → AreRight self.now k → rows.items ≡ rows_within first last k.board) }
     {
-        match &self.sheets {
-            Some(sheets) => rows_in(sheets.as_slice(), first, last),
-            None => None,
-        }
+        let sheet = between(self.known(), first, last)?;
+        copies_of_rows(&sheet.rows)
     }
 
     /// The row of a job, where one is remembered.
     pub fn row(&self, job: u64) -> Option<BoardRow>
         ensures { IfSome result (λ row. (k : Kept) → InOrder k → AreRight self.now k → row_at job k.board ≡ Some row) }
     {
-        match &self.sheets {
-            Some(sheets) => row_in(sheets.as_slice(), job),
-            None => None,
-        }
+        let sheet = around(self.known(), job)?;
+        let row = row_with(sheet.rows.as_slice(), job)?;
+        Some(*row)
     }
 
     /// The job with a number, where it is remembered and there is memory for its copy.
     pub fn job(&self, id: u64) -> Option<Job>
         ensures { IfSome result (λ job. (k : Kept) → InOrder k → AreRight self.now k → job_at k.state id ≡ Some job) }
     {
-        match &self.sheets {
-            Some(sheets) => job_in(sheets.as_slice(), id),
-            None => None,
-        }
+        let sheet = around(self.known(), id)?;
+        let job = job_with(sheet.jobs.as_slice(), id)?;
+        copy_of_job(job)
     }
 
     /// The attempt with a number, where it is remembered and there is memory for its copy.
     pub fn attempt(&self, id: u64) -> Option<Attempt>
         ensures { IfSome result (λ attempt. (k : Kept) → InOrder k → AreRight self.now k → attempt_at k.state id ≡ Some attempt) }
     {
-        match &self.sheets {
-            Some(sheets) => attempt_in(sheets.as_slice(), id),
-            None => None,
-        }
+        let sheet = trying(self.known(), id)?;
+        let attempt = attempt_with(sheet.attempts.as_slice(), id)?;
+        copy_of_attempt(attempt)
     }
 
     /// What is remembered still after a commit: the rows of these jobs went, these changes were made, and these rows were put.
@@ -277,34 +275,6 @@ fn between(sheets: &[Sheet], first: u64, last: u64) -> Option<&Sheet>
     sheets
         .iter()
         .find(|sheet| sheet.first == first && sheet.last == last)
-}
-
-fn jobs_in(sheets: &[Sheet], pipeline: u64) -> Option<Vec<Job>>
-    ensures { IfSome result (λ jobs. (k : Kept) → All (λ m. IsRight m k) sheets.now → jobs.items ≡ jobs_of k.state pipeline) }
-{
-    let sheet = of_pipeline(sheets, pipeline)?;
-    copies_of_jobs(&sheet.jobs)
-}
-
-fn needs_in(sheets: &[Sheet], first: u64, last: u64) -> Option<Vec<Need>>
-    ensures { IfSome result (λ needs. (k : Kept) → All (λ m. IsRight m k) sheets.now → needs.items ≡ needs_within first last k.state.needs) }
-{
-    let sheet = between(sheets, first, last)?;
-    copies_of_needs(&sheet.needs)
-}
-
-fn attempts_in(sheets: &[Sheet], first: u64, last: u64) -> Option<Vec<Attempt>>
-    ensures { IfSome result (λ attempts. (k : Kept) → All (λ m. IsRight m k) sheets.now → attempts.items ≡ attempts_within first last k.state.attempts) }
-{
-    let sheet = between(sheets, first, last)?;
-    copies_of_attempts(&sheet.attempts)
-}
-
-fn rows_in(sheets: &[Sheet], first: u64, last: u64) -> Option<Vec<BoardRow>>
-    ensures { IfSome result (λ rows. (k : Kept) → All (λ m. IsRight m k) sheets.now → rows.items ≡ rows_within first last k.board) }
-{
-    let sheet = between(sheets, first, last)?;
-    copies_of_rows(&sheet.rows)
 }
 
 /// Copies of jobs. None where memory was refused.

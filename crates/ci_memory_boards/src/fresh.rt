@@ -1,10 +1,11 @@
 //! From which numbers on pipelines and jobs are new: so all records of one that comes to be are known without a look-up.
 
 ghost use Rattle.std.specs.Prelude.{◌≡◌, ◌≤◌, ◌<◌, [], ℕ, List, None, IfSome, IsTrue};
-ghost use Rattle.ci_machine_steps.specs.Prelude.{IndexChange, Kept, put_rows, cleared, written, changed, applied};
+ghost use Rattle.ci_machine_steps.specs.Prelude.{IndexChange, Kept, cleared, written};
 ghost use Rattle.ci_memory_boards.specs.Fresh.{IsFresh, IsNoLess, IsBefore};
 ghost use Rattle.ci_server_lookups.specs.Prelude.{IsRight};
 
+use crate::follows::{Follows, after_changes, after_rows};
 use ci_machine::change::{Record, RowChange};
 use ci_machine::records::{BoardRow, Job};
 use ci_server_lookups::sheet::Sheet;
@@ -63,27 +64,7 @@ impl Fresh {
     pub(crate) fn after(self, changes: &[RowChange], rows: &[BoardRow]) -> Option<Fresh>
         ensures { IfSome result (λ f. (k : Kept) (indexes : List IndexChange) (gone : List ℕ) → IsFresh self k → IsFresh f (written changes.now rows.now indexes (cleared gone k))) }
     {
-        self.after_changes(changes)?.after_rows(rows)
-    }
-
-    fn after_changes(self, changes: &[RowChange]) -> Option<Fresh>
-        ensures { IfSome result (λ f. (k : Kept) → IsFresh self k → IsFresh f (record k { state = applied changes.now k.state })) }
-    {
-        let mut fresh = self;
-        for change in changes {
-            fresh = fresh.behind(change)?;
-        }
-        Some(fresh)
-    }
-
-    fn after_rows(self, rows: &[BoardRow]) -> Option<Fresh>
-        ensures { IfSome result (λ f. (k : Kept) → IsFresh self k → IsFresh f (record k { board = put_rows rows.now k.board })) }
-    {
-        let mut fresh = self;
-        for row in rows {
-            fresh = fresh.behind_job(row.job)?;
-        }
-        Some(fresh)
+        after_rows(after_changes(self, changes)?, rows)
     }
 
     /// With numbers behind those of what the change puts.
@@ -118,6 +99,18 @@ impl Fresh {
             job: self.job.max(next),
             alloc: self.alloc,
         })
+    }
+}
+
+impl Follows for Fresh {
+    ghost IsRightFor = { IsFresh };
+
+    fn noted(self, change: &RowChange) -> Option<Fresh> {
+        self.behind(change)
+    }
+
+    fn noted_row(self, row: BoardRow) -> Option<Fresh> {
+        self.behind_job(row.job)
     }
 }
 

@@ -4,6 +4,7 @@
 
 mod after;
 pub mod boards;
+mod follows;
 pub mod fresh;
 mod one;
 mod puts;

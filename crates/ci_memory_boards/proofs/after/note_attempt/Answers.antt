@@ -1,13 +1,10 @@
-use Rattle.std.proofs.Common.{◌≡◌, ℕ, OnSome, sym, ap, ◌∙◌, rules}
+use Rattle.std.proofs.Common.{◌≡◌, OnSome, sym, ap, ◌∙◌, rules}
+use Rattle.std.proofs.lemmas.Option.{IfSome_then}
 use Rattle.ci_machine_steps.specs.Prelude.{Attempt, is_within, attempt_cmp, put}
 use Rattle.ci_machine_steps.proofs.Sound.{rising_from_ascend}
-use Rattle.ci_memory_boards.proofs.Lists.{on_some_then}
 use Rattle.ci_memory_boards.proofs.Placing.{filter_put}
 use Rattle.ci_memory_boards.proofs.Stays.{attempt_elsewhere}
 use Rattle.ci_memory_boards.proofs.after.note_attempt.Goals as goal
-
-abbrev by_id : Attempt → ℕ
-by_id a = a.id
 
 -- it is put among the attempts of these jobs
 pub returns-then-has_within : goal.returns-then-has_within
@@ -15,11 +12,11 @@ returns-then-has_within c =
     let m = c.args.sheet.now in
     let new = c.args.attempt.now in
     let placed : OnSome c.put_record.result (c.put_record.new.records.items ≡ put attempt_cmp new m.attempts.items) = search rules in
-    on_some_then c.put_record.result placed (λ put_in k ascend right. record {
+    IfSome_then c.put_record.result placed (λ _ put_in k ascend right. record {
       jobs = right.jobs;
       inside = right.inside;
       needs = right.needs;
-      attempts = put_in ∙ ap (put attempt_cmp new) right.attempts ∙ sym (filter_put by_id (λ (a : Attempt). is_within m.first m.last a.job) new k.state.attempts (rising_from_ascend by_id k.state.attempts ascend) (sym c.has_within.ensures ∙ c.if-has_within.true));
+      attempts = put_in ∙ ap (put attempt_cmp new) right.attempts ∙ sym (filter_put (λ (a : Attempt). a.id) (λ (a : Attempt). is_within m.first m.last a.job) new k.state.attempts (rising_from_ascend (λ (a : Attempt). a.id) k.state.attempts ascend) (sym c.has_within.ensures ∙ c.if-has_within.true));
       rows = right.rows;
       graph = right.graph;
     })

@@ -1,13 +1,13 @@
 use Rattle.std.proofs.Common.{sym, subst, ◌∙◌}
+use Rattle.std.proofs.lemmas.Option.{IfSome_then}
 use Rattle.ci_machine_steps.specs.Prelude.{RowChange, changed}
 use Rattle.ci_server_lookups.specs.Prelude.{IsRight}
-use Rattle.ci_memory_boards.proofs.Lists.{on_some_then}
 use Rattle.ci_memory_boards.proofs.Stays.{stays, put_of}
 use Rattle.ci_memory_boards.proofs.after.note_other.Goals as goal
 
 pub returns-in-Some : goal.returns-in-Some
 returns-in-Some c =
-    on_some_then c.note_attempt.result c.note_attempt.ensures (λ then k ascend right.
+    IfSome_then c.note_attempt.result c.note_attempt.ensures (λ _ then k ascend right.
     subst (λ (x : RowChange). IsRight c.note_attempt.new.sheet (record k { state = changed x k.state })) (sym (put_of c.args.change.now c.in-Some.attempt.now (sym c.in-Some.ensures))) (then k ascend right))
 
 pub returns-in-None : goal.returns-in-None

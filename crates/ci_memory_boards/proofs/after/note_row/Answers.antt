@@ -1,24 +1,22 @@
-use Rattle.std.proofs.Common.{◌≡◌, ℕ, false, sym, ap, ◌∙◌}
+use Rattle.std.proofs.Common.{◌≡◌, false, sym, ap, ◌∙◌}
+use Rattle.std.proofs.lemmas.Option.{IfSome_then}
 use Rattle.ci_machine_steps.specs.Prelude.{BoardRow, row_cmp, is_within, put}
 use Rattle.ci_machine_steps.proofs.Sound.{rising_from_ascend}
-use Rattle.ci_memory_boards.proofs.Lists.{on_some_then, other_put}
+use Rattle.ci_memory_boards.proofs.Lists.{other_put}
 use Rattle.ci_memory_boards.proofs.Placing.{filter_put}
 use Rattle.ci_memory_boards.proofs.Stays.{key_apart}
 use Rattle.ci_memory_boards.proofs.after.note_row.Goals as goal
-
-abbrev by_job : BoardRow → ℕ
-by_job r = r.job
 
 -- it is put among the rows of these jobs
 pub returns-then-has_within : goal.returns-then-has_within
 returns-then-has_within c =
     let m = c.args.sheet.now in
-    on_some_then c.put_record.result c.put_record.ensures (λ put_in k ascend right. record {
+    IfSome_then c.put_record.result c.put_record.ensures (λ _ put_in k ascend right. record {
       jobs = right.jobs;
       inside = right.inside;
       needs = right.needs;
       attempts = right.attempts;
-      rows = put_in ∙ ap (put row_cmp c.args.row) right.rows ∙ sym (filter_put by_job (λ (r : BoardRow). is_within m.first m.last r.job) c.args.row k.board (rising_from_ascend by_job k.board ascend) (sym c.has_within.ensures ∙ c.if-has_within.true));
+      rows = put_in ∙ ap (put row_cmp c.args.row) right.rows ∙ sym (filter_put (λ (r : BoardRow). r.job) (λ (r : BoardRow). is_within m.first m.last r.job) c.args.row k.board (rising_from_ascend (λ (r : BoardRow). r.job) k.board ascend) (sym c.has_within.ensures ∙ c.if-has_within.true));
       graph = right.graph;
     })
 
