@@ -1,15 +1,14 @@
 -- What changes leave as it is remembered.
 use Rattle.std.proofs.Common.{◌≡◌, ◌==◌, ℕ, Bool, true, false, not, List, [], ◌∷◌, filter, map, Some, None, nat_cmp, is_eq}
-use Rattle.std.proofs.Common.{refl, sym, ap, subst, ◌∙◌, eq-eqb, arith}
+use Rattle.std.proofs.Common.{refl, sym, ap, subst, ◌∙◌, ⊎_elim, eq-eqb, arith}
 use Rattle.std.specs.List.{list_any}
 use Rattle.std.specs.List.Sorted.{IsStrictlySortedBy}
 use Rattle.std.specs.Ordering.{ordering_then}
-use Rattle.std.proofs.lemmas.Bool.{both_ways, false≢true, or_parts}
+use Rattle.std.proofs.lemmas.Bool.{false≢true, or_parts}
 use Rattle.std.proofs.lemmas.Option.{cond_some, same_Some}
 use Rattle.ci_machine_steps.specs.Prelude.{IndexChange, Key, Record, RowChange, Put, Remove, Attempt, BoardRow, Job, Need, Kept, row_cmp, put_rows, cleared, written, is_within}
 use Rattle.ci_machine_steps.specs.Prelude.{needs_within, attempts_within, rows_within, State, job_cmp, need_cmp, attempt_cmp, put, without, without_all, changed, applied, jobs_of}
 use Rattle.ci_machine.proofs.Filters.{filter_implied}
-use Rattle.ci_machine.proofs.Tests.{has_any}
 use Rattle.ci_machine.proofs.Keyed.{Has, filter_has, has_from_all, rising_put, rising_filter, unequal}
 use Rattle.ci_machine_steps.proofs.Sound.{ascend_from_rising, rising_from_ascend}
 use Rattle.ci_server_lookups.proofs.Changes.{state_stays, board_stays}
@@ -28,7 +27,10 @@ then_apart low high a b p q inside outside = grind (arith, key_apart low high a 
 
 -- one of a list has a number, or none has
 none_has : (n : ℕ) (a : Attempt) (xs : List Attempt) → list_any (λ x. x.id == n) xs ≡ false → Has a xs → not (is_eq (nat_cmp a.id n)) ≡ true
-none_has n a xs none has = unequal a.id n (λ same. both_ways (list_any (λ x. x.id == n) xs) none (has_any (λ (x : Attempt). x.id == n) a xs has (eq-eqb a.id n same)))
+none_has n a [] none has = absurd has
+none_has n a (x ∷ xs) none has =
+    let (here, behind) = or_parts (x.id == n) (list_any (λ y. y.id == n) xs) none in
+    ⊎_elim (λ same. unequal a.id n (λ e. false≢true (sym here ∙ eq-eqb x.id n (ap (λ (y : Attempt). y.id) (sym same) ∙ e)))) (λ later. none_has n a xs behind later) has
 
 -- ---- one change
 

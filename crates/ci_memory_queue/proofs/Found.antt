@@ -1,8 +1,7 @@
 -- What is found by a number in a list that a record is put into, or that those of a number are taken out of. The list's order is nothing
 -- to it.
-use Rattle.std.proofs.Common.{◌≡◌, ℕ, Bool, true, false, not, ◌==◌, List, [], ◌∷◌, find, Some, None, nat_cmp, is_eq, Ordering, refl, sym, ◌∙◌, inl, inr, arith, eqb-true, eq-eqb, ne_eqb}
+use Rattle.std.proofs.Common.{◌≡◌, ℕ, Bool, true, false, not, ◌==◌, List, [], ◌∷◌, filter, find, Some, None, nat_cmp, is_eq, Ordering, refl, sym, ◌∙◌, inl, inr, arith, eqb-true, eq-eqb, ne_eqb}
 use Rattle.ci_machine_steps.specs.Prelude.{placed, others, put, without}
-use Rattle.ci_machine.proofs.Filters.{find_implied}
 use Rattle.ci_machine.proofs.Keyed.{Has, has_filter, different, unequal}
 
 module _ {A : Type 0} where
@@ -16,6 +15,11 @@ module _ {A : Type 0} where
   find_placed_one cmp p x [] e none = grind arith
   find_placed_one cmp p x (y ∷ ys) e none = grind (arith, none y (inl refl), find_placed_one cmp p x ys e (λ z k. none z (inr k)))
 
+  -- a filter leaves what is found, where all that pass stay
+  find_filter : (p q : A → Bool) (xs : List A) → ((y : A) → p y ≡ true → q y ≡ true) → find p (filter q xs) ≡ find p xs
+  find_filter p q [] all = refl
+  find_filter p q (y ∷ ys) all = grind (arith, all y, find_filter p q ys all)
+
   -- nothing is found where nothing passes
   pub find_none : (p : A → Bool) (xs : List A) → ((y : A) → Has y xs → p y ≡ false) → find p xs ≡ None
   find_none p [] none = refl
@@ -27,7 +31,7 @@ module _ {A : Type 0} (id : A → ℕ) where
 
   pub without_other : (m n : ℕ) (xs : List A) → (n ≡ m → ⊥) → find (λ y. id y == n) (without id m xs) ≡ find (λ y. id y == n) xs
   without_other m n xs other =
-      find_implied (λ y. id y == n) (λ y. not (is_eq (nat_cmp (id y) m))) xs (λ y _ e. unequal (id y) m (λ f. other (sym (eqb-true (id y) n e) ∙ f)))
+      find_filter (λ y. id y == n) (λ y. not (is_eq (nat_cmp (id y) m))) xs (λ y e. unequal (id y) m (λ f. other (sym (eqb-true (id y) n e) ∙ f)))
 
   -- another record is found as before
   pub put_other : (x : A) (n : ℕ) (xs : List A) → (n ≡ id x → ⊥) → find (λ y. id y == n) (put by_id x xs) ≡ find (λ y. id y == n) xs
