@@ -47,6 +47,9 @@ between_found first last m sheets k is all =
     let its = and_parts (m.first == first) (m.last == last) it.1 in
     (it.0, eqb-true m.first first its.0, eqb-true m.last last its.1)
 
+pub both : (a b : Bool) → (a && b) ≡ true → (a ≡ true) × (b ≡ true)
+both = and_parts
+
 pub both_some : {A : Type 0} (P Q : Type 0) (o : Option A) → OnSome o P → OnSome o Q → OnSome o (P × Q)
 both_some P Q None p q = tt
 both_some P Q (Some x) p q = (p, q)
