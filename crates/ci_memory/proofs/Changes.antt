@@ -1,7 +1,7 @@
 -- What changes leave as it was.
-use Rattle.std.proofs.Common.{◌≡◌, Bool, true, false, List, [], ◌∷◌, ◌||◌, refl, sym, ◌∙◌}
+use Rattle.std.proofs.Common.{◌≡◌, false, List, [], ◌∷◌, refl, sym, ◌∙◌}
 use Rattle.std.specs.List.{list_any}
-use Rattle.std.proofs.lemmas.Bool.{false≢true}
+use Rattle.std.proofs.lemmas.Bool.{false≢true, or_parts}
 use Rattle.ci_machine_steps.specs.Prelude.{Key, Record, RowChange, Put, Remove, State, changed, applied}
 use Rattle.ci_memory.specs.Modes.{is_of_mode}
 use Rattle.ci_memory.specs.Runners.{is_of_runner}
@@ -18,22 +18,16 @@ modes_stay (Put (Record.Mode x)) s e = absurd (false≢true (sym e))
 modes_stay (Remove (Key.Mode n name)) s e = absurd (false≢true (sym e))
 modes_stay _ s e = refl
 
-pub first : (a b : Bool) → (a || b) ≡ false → a ≡ false
-first true b e = absurd (false≢true (sym e))
-first false b e = refl
-
-pub later : (a b : Bool) → (a || b) ≡ false → b ≡ false
-later true b e = absurd (false≢true (sym e))
-later false b e = e
-
 -- and so do changes none of which is of a runner
 pub all_runners_stay : (cs : List RowChange) (s : State) → list_any is_of_runner cs ≡ false → (applied cs s).runners ≡ s.runners
 all_runners_stay [] s none = refl
 all_runners_stay (c ∷ cs) s none =
-    all_runners_stay cs (changed c s) (later (is_of_runner c) (list_any is_of_runner cs) none) ∙ runners_stay c s (first (is_of_runner c) (list_any is_of_runner cs) none)
+    let both = or_parts (is_of_runner c) (list_any is_of_runner cs) none in
+    all_runners_stay cs (changed c s) both.1 ∙ runners_stay c s both.0
 
 -- nor is one of a mode
 pub all_modes_stay : (cs : List RowChange) (s : State) → list_any is_of_mode cs ≡ false → (applied cs s).modes ≡ s.modes
 all_modes_stay [] s none = refl
 all_modes_stay (c ∷ cs) s none =
-    all_modes_stay cs (changed c s) (later (is_of_mode c) (list_any is_of_mode cs) none) ∙ modes_stay c s (first (is_of_mode c) (list_any is_of_mode cs) none)
+    let both = or_parts (is_of_mode c) (list_any is_of_mode cs) none in
+    all_modes_stay cs (changed c s) both.1 ∙ modes_stay c s both.0

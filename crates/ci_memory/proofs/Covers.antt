@@ -1,18 +1,20 @@
 -- What is remembered of the pipelines that aren't finished, by membership, and under changes.
-use Rattle.std.proofs.Common.{◌≡◌, ◌⊎◌, ℕ, Bool, true, false, ◌||◌, ◌==◌, not, List, [], ◌∷◌, ◌++◌, map, filter, find, Contains, Some, None, nat_cmp, is_eq, refl, sym, ap, subst}
+use Rattle.std.proofs.Common.{◌≡◌, ◌⊎◌, ℕ, true, false, ◌==◌, not, List, [], ◌∷◌, ◌++◌, map, filter, find, Contains, Some, None, nat_cmp, is_eq, refl, sym, ap, subst}
 use Rattle.std.proofs.Common.{◌∙◌, inl, inr, ⊎_elim, eqb-true, eq-eqb}
 use Rattle.std.specs.List.{list_any}
-use Rattle.std.proofs.lemmas.Bool.{cases_Bool, both_ways, false≢true}
+use Rattle.std.proofs.lemmas.Bool.{cases_Bool, both_ways, not-true, or_parts}
 use Rattle.ci_machine_steps.specs.Prelude.{Pipeline, Unfinished, pipeline_cmp, put, without, Kept, unfinished_cmp, is_newer_of}
-use Rattle.ci_machine.proofs.Keyed.{Has, Named, has_find, has_filter, filter_has, has_put, put_has, has_map, map_has, same, unequal, has_from_contains, contains_from_has, has_from_all, All-from_has, contains_named, named_contains, not_true}
+use Rattle.ci_machine.proofs.Keyed.{Has, Named, has_find, has_filter, filter_has, has_put, put_has, has_map, map_has, same, unequal, has_from_contains, contains_from_has, has_from_all, All-from_has, contains_named, named_contains}
+use Rattle.ci_machine.proofs.Filters.{find_implied}
 use Rattle.ci_machine.proofs.Tests.{any_has, has_any}
 use Rattle.ci_server_lookups.specs.Prelude.{AreOpen}
 use Rattle.ci_server_lookups.proofs.OpenRows.{same_test}
+use Rattle.ci_memory_queue.proofs.Found.{find_none}
 use Rattle.ci_memory.specs.Known.{Known}
 use Rattle.ci_memory.specs.Alone.{IsOpen, IsAlone, Accounts}
 use Rattle.ci_memory.specs.Changes.{is_unsettled}
 use Rattle.ci_machine_steps.proofs.Behind.{in_either, has_left, has_right}
-use Rattle.ci_memory.proofs.Found.{any_none, find_kept, find_put, put_has_it, none_found, found_none}
+use Rattle.ci_memory.proofs.Found.{any_none, find_put, put_has_it, found_none}
 
 abbrev pub id : Pipeline → ℕ
 id p = p.id
@@ -100,9 +102,9 @@ module _ (n : ℕ) (ps : List Pipeline) (alone : List Pipeline) (none : list_any
   pub after_removal : (us : List Unfinished) (suspects : List ℕ) → Covers ps us alone suspects → Covers (without id n ps) us alone suspects
   after_removal us suspects c = record {
     covered = c.covered;
-    there = λ p h. find_kept (λ q. q.id == p.id) (λ q. not (is_eq (nat_cmp q.id n))) ps (λ q e. unequal q.id n (λ f. another p h (sym (eqb-true q.id p.id e) ∙ f))) ∙ c.there p h;
+    there = λ p h. find_implied (λ q. q.id == p.id) (λ q. not (is_eq (nat_cmp q.id n))) ps (λ q _ e. unequal q.id n (λ f. another p h (sym (eqb-true q.id p.id e) ∙ f))) ∙ c.there p h;
     newest = λ p h.
-        none_found (is_newer_of p) (without id n ps)
+        find_none (is_newer_of p) (without id n ps)
         (λ r m. found_none (is_newer_of p) r ps (c.newest p h) (has_filter (λ q. not (is_eq (nat_cmp q.id n))) r ps m).0);
     alone_open = c.alone_open;
     suspects_open = c.suspects_open;
@@ -110,18 +112,10 @@ module _ (n : ℕ) (ps : List Pipeline) (alone : List Pipeline) (none : list_any
 
 -- ---- a pipeline is put
 
-first_false : (a b : Bool) → (a || b) ≡ false → a ≡ false
-first_false true b e = e
-first_false false b e = refl
-
-later_false : (a b : Bool) → (a || b) ≡ false → b ≡ false
-later_false true b e = absurd (false≢true (sym e))
-later_false false b e = e
-
 -- one that isn't unsettled is there still, with no newer one
 module _ (q : Pipeline) (ps : List Pipeline) (p : Pipeline) (settled : is_unsettled q p ≡ false) where
   other : (p.id == q.id) ≡ false
-  other = first_false (p.id == q.id) (is_newer_of p q) settled
+  other = (or_parts (p.id == q.id) (is_newer_of p q) settled).0
 
   apart : p.id ≡ q.id → ⊥
   apart e = both_ways (p.id == q.id) other (eq-eqb p.id q.id e)
@@ -135,8 +129,8 @@ module _ (q : Pipeline) (ps : List Pipeline) (p : Pipeline) (settled : is_unsett
 
   newest_still : find (is_newer_of p) ps ≡ None → find (is_newer_of p) (put pipeline_cmp q ps) ≡ None
   newest_still e =
-      none_found (is_newer_of p) (put pipeline_cmp q ps)
-      (λ r h. ⊎_elim (λ s. ap (is_newer_of p) s ∙ later_false (p.id == q.id) (is_newer_of p q) settled) (λ m. found_none (is_newer_of p) r ps e m) (has_put pipeline_cmp q r ps h))
+      find_none (is_newer_of p) (put pipeline_cmp q ps)
+      (λ r h. ⊎_elim (λ s. ap (is_newer_of p) s ∙ (or_parts (p.id == q.id) (is_newer_of p q) settled).1) (λ m. found_none (is_newer_of p) r ps e m) (has_put pipeline_cmp q r ps h))
 
 module _ (q : Pipeline) (ps : List Pipeline) (us : List Unfinished) (alone : List Pipeline) (suspects : List ℕ) (c : Covers ps us alone suspects) where
   -- those that are unsettled become suspects
@@ -147,7 +141,7 @@ module _ (q : Pipeline) (ps : List Pipeline) (us : List Unfinished) (alone : Lis
   more = suspects ++ map (λ p. p.id) (filter (is_unsettled q) alone)
 
   kept : (p : Pipeline) → Has p rest → Has p alone × (is_unsettled q p ≡ false)
-  kept p h = let w = has_filter (λ r. not (is_unsettled q r)) p alone h in (w.0, not_true (is_unsettled q p) w.1)
+  kept p h = let w = has_filter (λ r. not (is_unsettled q r)) p alone h in (w.0, not-true (is_unsettled q p) w.1)
 
   moved : (p : Pipeline) → Has p alone → is_unsettled q p ≡ true → Has p.id more
   moved p h e = has_right p.id suspects (map (λ p. p.id) (filter (is_unsettled q) alone)) (has_map (λ p. p.id) p (filter (is_unsettled q) alone) (filter_has (is_unsettled q) p alone h e))

@@ -1,13 +1,15 @@
 -- The redundant pipeline is the suspect of least number that is superseded: those that are alone aren't, and the rest are suspects.
 use Rattle.std.proofs.Common.{◌≡◌, ◌⊎◌, ℕ, ◌+◌, ◌<◌, ◌≤◌, false, nat_lt, ◌==◌, List, [], ◌∷◌, ◌++◌, map, filter, find, Option, Some, None, refl, sym, ap, subst, ◌∙◌, inl, inr}
 use Rattle.std.proofs.Common.{⊎_elim, arith, ltb-true, ltb-false, eqb-true}
-use Rattle.std.specs.List.{list_any}
-use Rattle.std.proofs.lemmas.Bool.{cases_Bool, cond_both, cond-true, cond-false}
+use Rattle.std.proofs.lemmas.Bool.{cond_both}
+use Rattle.std.proofs.lemmas.List.Folds.{list_any_none}
+use Rattle.std.proofs.lemmas.Option.{cond_some}
 use Rattle.ci_machine_steps.specs.Prelude.{BoardRow, Pipeline, Unfinished, State, is_open_in, unfinished_in, redundant_in, pipeline_at, is_newer_of}
 use Rattle.ci_machine.proofs.Keyed.{Has, Rising, Named, rising_from, rising_filter, has_find, has_from_all, has_from_contains, contains_from_has, All-from_has}
 use Rattle.ci_memory.specs.Redundant.{is_superseded, if_superseded, superseded_at, IsLeast, lesser}
 use Rattle.ci_machine_steps.proofs.Behind.{in_either, has_left, has_right}
 use Rattle.ci_memory.proofs.Covers.{Covers, number, id}
+use Rattle.ci_memory.proofs.Found.{found_none}
 use Rattle.ci_memory.proofs.Supersedes.{or_first, first_found, first_is_redundant, superseded_by}
 
 -- ---- by membership
@@ -33,22 +35,11 @@ found_at s n p e = go (pipeline_at s n) refl e
   where
     go : (o : Option Pipeline) → pipeline_at s n ≡ o → if_superseded s o ≡ Some p → p.id ≡ n
     go None at f = absurd (cc)
-    go (Some q) at f =
-        cond_both (is_superseded s q) (Some q) None (λ o. o ≡ Some p → p.id ≡ n)
-        (λ _ g. let same : q ≡ p = cc in ap id (sym same) ∙ eqb-true q.id n (has_find (λ (r : Pipeline). r.id == n) q s.pipelines at).1)
-        (λ _ g. absurd (cc)) f
+    go (Some q) at f = ap id (sym (cond_some (is_superseded s q) q p f).1) ∙ eqb-true q.id n (has_find (λ (r : Pipeline). r.id == n) q s.pipelines at).1
 
 -- one without a newer one isn't superseded
 pub alone_is_none : (s : State) (n : ℕ) (p : Pipeline) → pipeline_at s n ≡ Some p → find (is_newer_of p) s.pipelines ≡ None → superseded_at s n ≡ None
-alone_is_none s n p at none = superseded_by s n p false _ (sym at) (no_newer s.pipelines none) refl
-  where
-    no_newer : (ps : List Pipeline) → find (is_newer_of p) ps ≡ None → list_any (is_newer_of p) ps ≡ false
-    no_newer [] e = refl
-    no_newer (q ∷ qs) e =
-        ⊎_elim
-        (λ t. absurd (let bad : ◌≡◌ {A = Option Pipeline} (Some q) None = sym (cond-true (is_newer_of p q) (Some q) (find (is_newer_of p) qs) t) ∙ e in cc))
-        (λ f. rw f (no_newer qs (sym (cond-false (is_newer_of p q) (Some q) (find (is_newer_of p) qs) f) ∙ e)))
-        (cases_Bool (is_newer_of p q))
+alone_is_none s n p at none = superseded_by s n p false _ (sym at) (list_any_none (is_newer_of p) s.pipelines (All-from_has (λ q. is_newer_of p q ≡ false) s.pipelines (λ q. found_none (is_newer_of p) q s.pipelines none))) refl
 
 module _ (s : State) where
   none_in : (us : List Unfinished) → ((u : Unfinished) → Has u us → superseded_at s u.pipeline ≡ None) → first_found s us ≡ None

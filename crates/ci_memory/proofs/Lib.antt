@@ -2,10 +2,8 @@ mod Changes
 mod Failing
 mod Finds
 mod Listed
-pub mod Jobs
 pub mod Quiets
 pub mod Rights
-pub mod QuietStays
 pub mod Found
 pub mod Covers
 pub mod Stays

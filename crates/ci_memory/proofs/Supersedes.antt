@@ -1,52 +1,34 @@
 -- The redundant pipeline of least number is the first one that is superseded of those that aren't finished.
 use Rattle.std.proofs.Common.{◌≡◌, ℕ, ◌==◌, ◌&&◌, ◌||◌, not, cond, Bool, true, false, List, [], ◌∷◌, map, filter, find, Option, Some, None, option_map, refl, sym, ap, ◌∙◌, inl}
-use Rattle.std.proofs.Common.{inr, eqb-true}
+use Rattle.std.proofs.Common.{inr, arith, eqb-true}
 use Rattle.std.specs.List.{list_any}
 use Rattle.std.proofs.lemmas.Bool.{cond_both}
 use Rattle.ci_machine_steps.specs.Prelude.{Attempt, BoardRow, Job, Pipeline, PipelineWithStatus, Unfinished, State, jobs_of, is_within, attempts_within, is_newer_of, is_bound_to}
 use Rattle.ci_machine_steps.specs.Prelude.{is_redundant, is_open_in, unfinished_in, pipeline_at, with_status, was_tried, redundant_in}
 use Rattle.ci_machine.proofs.Keyed.{Has, Rising, find_has}
+use Rattle.ci_machine.proofs.Tests.{any_mapped}
 use Rattle.ci_memory.specs.Redundant.{is_superseded, if_superseded, superseded_at}
 
 -- ---- lists
 
 find_mapped : {A B : Type 0} (f : A → B) (g : B → A) (p : B → Bool) → ((x : A) → g (f x) ≡ x) → (xs : List A) → option_map g (find p (map f xs)) ≡ find (λ x. p (f x)) xs
 find_mapped f g p back [] = refl
-find_mapped f g p back (x ∷ xs) =
-    cond_both (p (f x)) (Some (f x)) (find p (map f xs)) (λ o. option_map g o ≡ cond (p (f x)) (Some x) (find (λ y. p (f y)) xs))
-    (λ t. ap Some (back x) ∙ sym (ap (λ b. cond b (Some x) (find (λ y. p (f y)) xs)) t))
-    (λ n. find_mapped f g p back xs ∙ sym (ap (λ b. cond b (Some x) (find (λ y. p (f y)) xs)) n))
+find_mapped f g p back (x ∷ xs) = grind (arith, back x, find_mapped f g p back xs)
 
 find_same : {A : Type 0} (p q : A → Bool) → ((x : A) → p x ≡ q x) → (xs : List A) → find p xs ≡ find q xs
 find_same p q same [] = refl
 find_same p q same (x ∷ xs) = λ i. cond (same x i) (Some x) (find_same p q same xs i)
 
-any_mapped : {A B : Type 0} (f : A → B) (p : B → Bool) (xs : List A) → list_any p (map f xs) ≡ list_any (λ x. p (f x)) xs
-any_mapped f p [] = refl
-any_mapped f p (x ∷ xs) = ap (λ b. p (f x) || b) (any_mapped f p xs)
-
 any_filtered : {A : Type 0} (p t : A → Bool) (xs : List A) → list_any p (filter t xs) ≡ list_any (λ x. p x && t x) xs
 any_filtered p t [] = refl
-any_filtered p t (x ∷ xs) =
-    cond_both (t x) (x ∷ filter t xs) (filter t xs) (λ l. list_any p l ≡ ((p x && t x) || list_any (λ y. p y && t y) xs))
-    (λ e. (λ i. and_one (p x) (t x) e i || any_filtered p t xs i))
-    (λ e. any_filtered p t xs ∙ ap (λ b. b || list_any (λ y. p y && t y) xs) (sym (and_none (p x) (t x) e)))
-  where
-    and_one : (a b : Bool) → b ≡ true → a ≡ (a && b)
-    and_one true b e = sym e
-    and_one false b e = refl
-
-    and_none : (a b : Bool) → b ≡ false → (a && b) ≡ false
-    and_none true b e = e
-    and_none false b e = refl
+any_filtered p t (x ∷ xs) = grind (arith, any_filtered p t xs)
 
 any_alike : {A : Type 0} (p q : A → Bool) (xs : List A) → ((x : A) → Has x xs → p x ≡ q x) → list_any p xs ≡ list_any q xs
 any_alike p q [] same = refl
 any_alike p q (x ∷ xs) same = λ i. same x (inl refl) i || any_alike p q xs (λ y h. same y (inr h)) i
 
-and_regroup : (a b c : Bool) → ((a && b) && c) ≡ (a && (b && c))
-and_regroup true b c = refl
-and_regroup false b c = refl
+regrouped : (a b c : Bool) → ((a && b) && c) ≡ (a && (b && c))
+regrouped a b c = grind arith
 
 -- ---- the redundant pipeline
 
@@ -58,7 +40,7 @@ module _ (s : State) (board : List BoardRow) where
   tried = filter (was_tried s) s.jobs
 
   redundant_is : (p : Pipeline) → is_redundant (map with s.pipelines) tried (with p) ≡ (is_open_in s board p && is_superseded s p)
-  redundant_is p = and_regroup (is_open_in s board p) (list_any (λ q. is_newer_of p q.pipeline) (map with s.pipelines)) (not (list_any (is_bound_to p) tried)) ∙ (λ i. is_open_in s board p && (any_mapped with (λ q. is_newer_of p q.pipeline) s.pipelines i && not (any_filtered (is_bound_to p) (was_tried s) s.jobs i)))
+  redundant_is p = regrouped (is_open_in s board p) (list_any (λ q. is_newer_of p q.pipeline) (map with s.pipelines)) (not (list_any (is_bound_to p) tried)) ∙ (λ i. is_open_in s board p && (sym (any_mapped (λ q. is_newer_of p q.pipeline) with s.pipelines) i && not (any_filtered (is_bound_to p) (was_tried s) s.jobs i)))
 
   pub as_found : redundant_in s board ≡ find (λ p. is_open_in s board p && is_superseded s p) s.pipelines
   as_found = find_mapped with (λ w. w.pipeline) (is_redundant (map with s.pipelines) tried) (λ p. refl) s.pipelines ∙ find_same _ _ redundant_is s.pipelines
@@ -120,7 +102,4 @@ held_back_is s p first last inside =
         ∙ any_alike _ _ s.attempts (λ a _. both (a.job == j.id) (is_within first last a.job) (λ t. ap (is_within first last) (eqb-true a.job j.id t) ∙ e))
 
     own : (a b c : Bool) → (((a && b) && c) && a) ≡ ((a && b) && c)
-    own true true true = refl
-    own true true false = refl
-    own true false c = refl
-    own false b c = refl
+    own a b c = grind arith

@@ -8,7 +8,7 @@ ghost use Rattle.std.specs.Prelude.{◌≡◌, ℕ, List, IfSome, IsTrue, None, 
 ghost use Rattle.ci_machine_steps.specs.Prelude.{IndexChange, BoardRow, Kept, cleared, written, first_due, job_at, leases};
 ghost use Rattle.ci_memory.specs.Quiet.{AreRight, IsWider, IsWithin};
 
-use crate::leases::changes::after_changes;
+use crate::follows::followed;
 use crate::leases::deadlines::deadline;
 use ci_machine::change::RowChange;
 use ci_machine::moment::Moment;
@@ -88,6 +88,6 @@ impl Leases {
     pub fn after(self, changes: &[RowChange]) -> Leases
         ensures { (k : Kept) (jobs : List ℕ) (rows : List BoardRow) (indexes : List IndexChange) → AreRight self k → AreRight result (written changes.now rows indexes (cleared jobs k)) }
     {
-        after_changes(self, changes)
+        followed(self, changes)
     }
 }

@@ -1,6 +1,7 @@
 //! What a server remembers of its store, so that it is not looked up again: a store over a store.
 #![tactic(auto)]
 
+mod follows;
 pub mod leases;
 pub mod memory;
 pub mod modes;

@@ -5,6 +5,7 @@ ghost use Rattle.std.specs.List.{list_any};
 ghost use Rattle.ci_machine_steps.specs.Prelude.{State, changed, applied, newest_of};
 ghost use Rattle.ci_memory.specs.Newest.{IsList, AreNewest, is_of_list};
 
+use crate::follows::{Follows, followed};
 use ci_machine::change::{Key, Record, RowChange};
 use ci_machine::records::Pipeline;
 use std::alloc::Global;
@@ -58,19 +59,17 @@ impl Newest {
     }
 
     /// What is remembered after changes.
-    pub(crate) fn after(mut self, changes: &[RowChange]) -> Newest
+    pub(crate) fn after(self, changes: &[RowChange]) -> Newest
         ensures { (s : State) → AreNewest self s → AreNewest result (applied changes.now s) }
     {
-        for change in changes {
-            self.change(change);
-        }
-        self
+        followed(self, changes)
     }
+}
 
-    /// Forgets the lists that one change may be of.
-    fn change(&mut self, change: &RowChange)
-        ensures { (s : State) → AreNewest self.old s → AreNewest self.new (changed change.now s) }
-    {
+impl Follows for Newest {
+    ghost IsRightOf = { AreNewest };
+
+    fn change(&mut self, change: &RowChange) {
         self.known = known_without(self.known.take(), change);
     }
 }

@@ -4,6 +4,7 @@ ghost use Rattle.std.specs.Prelude.{◌≡◌, IfSome};
 ghost use Rattle.ci_machine_steps.specs.Prelude.{Numbers, next_of, State, with_next, changed, applied};
 ghost use Rattle.ci_memory.specs.Numbers.{AreNext};
 
+use crate::follows::{Follows, followed};
 use ci_machine::change::{Counter, Record, RowChange};
 
 /// The next number of each kind, if it is remembered.
@@ -63,22 +64,20 @@ impl NextNumbers {
         }
     }
 
-    /// Brings what is remembered up to one change.
-    fn change(&mut self, change: &RowChange)
-        ensures { (s : State) → AreNext self.old s.next → AreNext self.new (changed change.now s).next }
+    /// What is remembered after changes.
+    pub(crate) fn after(self, changes: &[RowChange]) -> NextNumbers
+        ensures { (s : State) → AreNext self s.next → AreNext result (applied changes.now s).next }
     {
+        followed(self, changes)
+    }
+}
+
+impl Follows for NextNumbers {
+    ghost IsRightOf = { λ m s. AreNext m s.next };
+
+    fn change(&mut self, change: &RowChange) {
         if let RowChange::Put(Record::Next(counter, number)) = change {
             self.put(*counter, *number);
         }
-    }
-
-    /// What is remembered after changes.
-    pub(crate) fn after(mut self, changes: &[RowChange]) -> NextNumbers
-        ensures { (s : State) → AreNext self s.next → AreNext result (applied changes.now s).next }
-    {
-        for change in changes {
-            self.change(change);
-        }
-        self
     }
 }

@@ -5,6 +5,7 @@ ghost use Rattle.std.specs.Str.{bytes_eq};
 ghost use Rattle.ci_machine_steps.specs.Prelude.{project_with, State, changed, applied};
 ghost use Rattle.ci_memory.specs.Projects.{IsFound, AreProjects, is_of_project};
 
+use crate::follows::{Follows, followed};
 use ci_machine::change::{Key, Record, RowChange};
 use ci_machine::records::Project;
 use ci_machine::text::Text;
@@ -61,19 +62,17 @@ impl Projects {
     }
 
     /// What is remembered after changes.
-    pub(crate) fn after(mut self, changes: &[RowChange]) -> Projects
+    pub(crate) fn after(self, changes: &[RowChange]) -> Projects
         ensures { (s : State) → AreProjects self s → AreProjects result (applied changes.now s) }
     {
-        for change in changes {
-            self.change(change);
-        }
-        self
+        followed(self, changes)
     }
+}
 
-    /// Forgets what one change is of.
-    fn change(&mut self, change: &RowChange)
-        ensures { (s : State) → AreProjects self.old s → AreProjects self.new (changed change.now s) }
-    {
+impl Follows for Projects {
+    ghost IsRightOf = { AreProjects };
+
+    fn change(&mut self, change: &RowChange) {
         self.known = known_without(self.known.take(), change);
     }
 }

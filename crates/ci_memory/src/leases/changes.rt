@@ -1,24 +1,22 @@
 //! What is remembered of leases, kept right through changes of records.
 
 ghost use Rattle.std.specs.Prelude.{◌≡◌, ◌≢◌, ◌≤◌, ◌⊎◌, IfSome, IsTrue, Some};
-ghost use Rattle.ci_machine_steps.specs.Prelude.{State, applied, changed, with_record, without_record};
+ghost use Rattle.ci_machine_steps.specs.Prelude.{State, changed, with_record, without_record};
 ghost use Rattle.ci_machine.specs.declared.change.Record.TheVariants as row;
 ghost use Rattle.ci_machine.specs.declared.change.Key.TheVariants as key;
 ghost use Rattle.ci_memory.specs.Quiet.{AreRightOf, IsQuiet};
 
+use crate::follows::Follows;
 use crate::leases::{Leases, Limit, Quiet};
 use ci_machine::change::{Key, Record, RowChange};
 use ci_machine::records::{Attempt, Job};
 
-/// After changes, the first of them first.
-pub(crate) fn after_changes(memory: Leases, changes: &[RowChange]) -> Leases
-    ensures { (s : State) → AreRightOf memory s → AreRightOf result (applied changes.now s) }
-{
-    let mut memory = memory;
-    for change in changes {
-        memory = after_change(memory, change);
+impl Follows for Leases {
+    ghost IsRightOf = { AreRightOf };
+
+    fn change(&mut self, change: &RowChange) {
+        *self = after_change(*self, change);
     }
-    memory
 }
 
 fn after_change(memory: Leases, change: &RowChange) -> Leases

@@ -8,4 +8,4 @@ pub returns : goal.returns
 returns c = λ k jobs rows indexes right.
     let less = cleared jobs k in
     let changed = record less { state = applied c.args.changes.now k.state; board = put_rows rows less.board } in
-    subst (λ (s : State). AreRightOf c.after_changes.result s) (sym (state_stays indexes changed)) (c.after_changes.ensures k.state right)
+    subst (λ (s : State). AreRightOf c.followed.result s) (sym (state_stays indexes changed)) (c.followed.ensures k.state right)

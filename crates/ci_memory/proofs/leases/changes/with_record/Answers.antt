@@ -1,4 +1,4 @@
-use Rattle.ci_memory.proofs.QuietStays.{record_stays}
+use Rattle.ci_memory.proofs.Rights.{record_stays}
 use Rattle.ci_memory.proofs.leases.changes.with_record.Goals as goal
 
 pub returns-in_default : goal.returns-in_default

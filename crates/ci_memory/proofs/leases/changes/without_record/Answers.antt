@@ -1,4 +1,4 @@
-use Rattle.ci_memory.proofs.QuietStays.{key_stays}
+use Rattle.ci_memory.proofs.Rights.{key_stays}
 use Rattle.ci_memory.proofs.leases.changes.without_record.Goals as goal
 
 pub returns-in_default : goal.returns-in_default
