@@ -5,16 +5,14 @@ use Rattle.std.specs.List.{list_any}
 use Rattle.std.proofs.lemmas.Bool.{cases_Bool, both_ways, not-true, or_parts}
 use Rattle.ci_machine_steps.specs.Prelude.{Pipeline, Unfinished, pipeline_cmp, put, without, Kept, unfinished_cmp, is_newer_of}
 use Rattle.ci_machine.proofs.Keyed.{Has, Named, has_find, has_filter, filter_has, has_put, put_has, has_map, map_has, same, unequal, has_from_contains, contains_from_has, has_from_all, All-from_has, contains_named, named_contains}
-use Rattle.ci_machine.proofs.Filters.{find_implied}
 use Rattle.ci_machine.proofs.Tests.{any_has, has_any}
 use Rattle.ci_server_lookups.specs.Prelude.{AreOpen}
 use Rattle.ci_server_lookups.proofs.OpenRows.{same_test}
-use Rattle.ci_memory_queue.proofs.Found.{find_none}
 use Rattle.ci_memory.specs.Known.{Known}
 use Rattle.ci_memory.specs.Alone.{IsOpen, IsAlone, Accounts}
 use Rattle.ci_memory.specs.Changes.{is_unsettled}
 use Rattle.ci_machine_steps.proofs.Behind.{in_either, has_left, has_right}
-use Rattle.ci_memory.proofs.Found.{any_none, find_put, put_has_it, found_none}
+use Rattle.ci_memory.proofs.Found.{any_none, find_implied, find_none, find_put, put_has_it, found_none}
 
 abbrev pub id : Pipeline → ℕ
 id p = p.id
@@ -102,7 +100,7 @@ module _ (n : ℕ) (ps : List Pipeline) (alone : List Pipeline) (none : list_any
   pub after_removal : (us : List Unfinished) (suspects : List ℕ) → Covers ps us alone suspects → Covers (without id n ps) us alone suspects
   after_removal us suspects c = record {
     covered = c.covered;
-    there = λ p h. find_implied (λ q. q.id == p.id) (λ q. not (is_eq (nat_cmp q.id n))) ps (λ q _ e. unequal q.id n (λ f. another p h (sym (eqb-true q.id p.id e) ∙ f))) ∙ c.there p h;
+    there = λ p h. find_implied (λ q. q.id == p.id) (λ q. not (is_eq (nat_cmp q.id n))) ps (λ q e. unequal q.id n (λ f. another p h (sym (eqb-true q.id p.id e) ∙ f))) ∙ c.there p h;
     newest = λ p h.
         find_none (is_newer_of p) (without id n ps)
         (λ r m. found_none (is_newer_of p) r ps (c.newest p h) (has_filter (λ q. not (is_eq (nat_cmp q.id n))) r ps m).0);

@@ -1,9 +1,8 @@
 -- What is found in a list that is changed.
-use Rattle.std.proofs.Common.{◌≡◌, Bool, true, false, not, List, [], ◌∷◌, filter, find, None, Ordering, is_eq, ◌∙◌, arith}
+use Rattle.std.proofs.Common.{◌≡◌, ℕ, Bool, true, false, not, ◌==◌, ◌&&◌, List, [], ◌∷◌, filter, find, Some, None, Ordering, nat_cmp, is_eq, refl, sym, ◌∙◌, inl, inr, arith, eqb-true, eq-eqb, ne_eqb}
 use Rattle.std.specs.List.{list_any}
-use Rattle.ci_machine_steps.specs.Prelude.{placed, others, put}
-use Rattle.ci_machine.proofs.Filters.{find_implied}
-use Rattle.ci_machine.proofs.Keyed.{Has}
+use Rattle.ci_machine_steps.specs.Prelude.{placed, others, put, without}
+use Rattle.ci_machine.proofs.Keyed.{Has, has_filter, different, unequal}
 
 module _ {A : Type 0} where
   -- a record that doesn't pass may stand anywhere among those of which one is found, or which pass
@@ -15,9 +14,22 @@ module _ {A : Type 0} where
   filter_placed cmp p x [] e = grind arith
   filter_placed cmp p x (y ∷ ys) e = grind (arith, filter_placed cmp p x ys e)
 
+  -- a filter leaves what is found where all that would be found pass it, and two filters are one
+  pub find_implied : (p q : A → Bool) (xs : List A) → ((y : A) → p y ≡ true → q y ≡ true) → find p (filter q xs) ≡ find p xs
+  find_implied p q [] h = refl
+  find_implied p q (y ∷ ys) h = grind (arith, h y, find_implied p q ys h)
+
+  pub filter_both : (p q both : A → Bool) (xs : List A) → ((y : A) → both y ≡ p y && q y) → filter q (filter p xs) ≡ filter both xs
+  filter_both p q both [] h = refl
+  filter_both p q both (y ∷ ys) h = grind (arith, h y, filter_both p q both ys h)
+
+  pub find_none : (p : A → Bool) (xs : List A) → ((y : A) → Has y xs → p y ≡ false) → find p xs ≡ None
+  find_none p [] none = refl
+  find_none p (y ∷ ys) none = grind (arith, none y (inl refl), find_none p ys (λ z k. none z (inr k)))
+
   -- what no record of x's key passes is found as before, where x doesn't pass
   pub find_put : (p : A → Bool) (cmp : A → A → Ordering) (x : A) (xs : List A) → p x ≡ false → ((y : A) → p y ≡ true → not (is_eq (cmp y x)) ≡ true) → find p (put cmp x xs) ≡ find p xs
-  find_put p cmp x xs e other = find_placed cmp p x (others cmp x xs) e ∙ find_implied p (λ y. not (is_eq (cmp y x))) xs (λ y _. other y)
+  find_put p cmp x xs e other = find_placed cmp p x (others cmp x xs) e ∙ find_implied p (λ y. not (is_eq (cmp y x))) xs other
 
   placed_has_it : (cmp : A → A → Ordering) (x : A) (xs : List A) → Has x (placed cmp x xs)
   placed_has_it cmp x [] = grind arith
@@ -34,3 +46,25 @@ module _ {A : Type 0} where
   pub any_none : (p : A → Bool) (x : A) (xs : List A) → list_any p xs ≡ false → Has x xs → p x ≡ false
   any_none p x [] none h = absurd h
   any_none p x (y ∷ ys) none h = grind (arith, any_none p x ys)
+
+  -- the one that passes is found, where no other does
+  placed_is_found : (cmp : A → A → Ordering) (p : A → Bool) (x : A) (xs : List A) → p x ≡ true → ((y : A) → Has y xs → p y ≡ false) → find p (placed cmp x xs) ≡ Some x
+  placed_is_found cmp p x [] e none = grind arith
+  placed_is_found cmp p x (y ∷ ys) e none = grind (arith, none y (inl refl), placed_is_found cmp p x ys e (λ z k. none z (inr k)))
+
+-- records that go by a number
+module _ {A : Type 0} (id : A → ℕ) where
+  abbrev by_id : A → A → Ordering
+  by_id a b = nat_cmp (id a) (id b)
+
+  pub without_other : (m n : ℕ) (xs : List A) → (n ≡ m → ⊥) → find (λ y. id y == n) (without id m xs) ≡ find (λ y. id y == n) xs
+  without_other m n xs other =
+      find_implied (λ y. id y == n) (λ y. not (is_eq (nat_cmp (id y) m))) xs (λ y e. unequal (id y) m (λ f. other (sym (eqb-true (id y) n e) ∙ f)))
+
+  pub put_other : (x : A) (n : ℕ) (xs : List A) → (n ≡ id x → ⊥) → find (λ y. id y == n) (put by_id x xs) ≡ find (λ y. id y == n) xs
+  put_other x n xs other = find_placed by_id (λ y. id y == n) x (others by_id x xs) (ne_eqb (id x) n (λ e. other (sym e))) ∙ without_other (id x) n xs other
+
+  pub put_same : (x : A) (n : ℕ) (xs : List A) → n ≡ id x → find (λ y. id y == n) (put by_id x xs) ≡ Some x
+  put_same x n xs same =
+      placed_is_found by_id (λ y. id y == n) x (others by_id x xs) (eq-eqb (id x) n (sym same))
+      (λ y k. ne_eqb (id y) n (λ e. different (id y) (id x) (has_filter (λ z. not (is_eq (nat_cmp (id z) (id x)))) y xs k).1 (e ∙ same)))
