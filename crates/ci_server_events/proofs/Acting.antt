@@ -17,11 +17,9 @@ use Rattle.ci_board.specs.Prelude.{row_at}
 use Rattle.ci_machine.proofs.Keyed.{Has, All-from_has, filter_has, has_from_contains, contains_from_has, has_from_all, find_has}
 use Rattle.ci_machine_steps.proofs.Sound.{sound}
 use Rattle.ci_server_lookups.specs.Prelude.{Act, Play, Retry, Cancel, Outcome, is_permitted, marked, ended_leases, act_changes, is_acted_on, acted_jobs, acted_state, shows_job_by}
-use Rattle.ci_server_lookups.specs.Prelude.{shows_pipeline_by, IsOutcome, AreRecords, StoreFault, of_pipeline, unleased, AreOf, IsWhole, HoldAlike, FreeAlike, still_held, IsKept}
-use Rattle.ci_store.specs.Prelude.{LoadsBy}
+use Rattle.ci_server_lookups.specs.Prelude.{shows_pipeline_by, IsOutcome, AreRecords, of_pipeline, unleased, AreOf, IsWhole, HoldAlike, FreeAlike, still_held, IsKept}
 use Rattle.ci_server_lookups.specs.declared.records.Records.{Records}
 use Rattle.ci_server_lookups.specs.declared.records.Whole.{Whole}
-use Rattle.ci_server_lookups.proofs.Loading.{ends, says}
 use Rattle.ci_server_lookups.proofs.Changes.{state_stays}
 use Rattle.ci_server_lookups.proofs.Claiming.{with_alike}
 use Rattle.ci_server_events.specs.declared.planned.Beside.{Beside}
@@ -30,15 +28,9 @@ use Rattle.ci_server_events.specs.Acting.{refusal_of, ActsAs, changes_by, IsDone
 use Rattle.ci_server_events.specs.Planning.{PlansFor, Settles}
 use Rattle.ci_server_events.proofs.Found.{found_is_there}
 use Rattle.ci_server_events.proofs.Held.{HoldsNone, still_alike, acts_hold_none}
-use Rattle.ci_server_events.proofs.Leaving.{plans_with}
+use Rattle.ci_server_events.proofs.Leaving.{IsPlanned, plans_so}
 use Rattle.ci_server_events.proofs.Settles.{settles_by, number_found}
 use Rattle.ci_server_events.proofs.Showing.{job_alike, pipeline_alike}
-
-module _ {T : Type 0} (honest : T → Type 0) (holds : T → Kept → Type 0) (leaves : T → Kept → Kept → Type 0) where
-  -- after a load that went well, what comes of it without the store
-  pub leads : {A B : Type 0} {P : Kept → A → Type 0} (R : Kept → B → Type 0) (a b : T) (first : Result A StoreFault) (x : A) (r : Result B StoreFault) → first ≡ Ok x
-      → LoadsBy honest holds leaves a b first P → ((k : Kept) (y : B) → r ≡ Ok y → P k x → R k y) → LoadsBy honest holds leaves a b r R
-  leads R a b first x r is load step = says honest holds leaves R a b r (ends honest holds leaves a b first x r is load) step
 
 -- ---- the laws, as they stand
 
@@ -189,10 +181,10 @@ done_is law lines act only k n w o chosen before after indexes claims kept whole
 
 -- it settles its changes
 done_settles : (act : Act) (only : Option ℕ) (k : Kept) (n : ℕ) (w : Whole) (o : Outcome) (indexes : List IndexChange) (claims : List Claim) → IsDone act only k n w o indexes claims
-    → (changes : List RowChange) (beside : Beside) → changes ≡ act_changes act k.state (acted_jobs act only k.state k.board n) → beside.rows.items ≡ o.changed.items → beside.indexes.items ≡ indexes
+    → (changes : List RowChange) (beside : Beside) → changes ≡ act_changes act k.state (acted_jobs act only k.state k.board n) → beside.rows ≡ o.changed → beside.indexes.items ≡ indexes
     → Settles k changes beside
 done_settles act only k n w o indexes claims done changes beside same same_rows same_indexes =
-    settles_by k changes (act_changes act k.state (acted_jobs act only k.state k.board n)) beside o.changed.items indexes same same_rows same_indexes done.outcome.board done.are_indexes
+    settles_by k changes (act_changes act k.state (acted_jobs act only k.state k.board n)) beside o.changed.items indexes same (ap (λ v. v.items) same_rows) same_indexes done.outcome.board done.are_indexes
 
 -- it is done to the job where there is a place at which it is done
 is_done : (b : Bool) (places : List ℕ) (f : ℕ → Job) (job : Job) → map f places ≡ (if b then job ∷ [] else []) → 0 < length places → b ≡ true
@@ -250,9 +242,8 @@ module _ (k : Kept) (kept : IsKept k) (act : Act) (job : Job) (has : Contains k.
 
   -- the job was asked for, and its status permits it
   pub job_planned : JobIsShown → 0 < length o.places.items → (plan : Plan) → plan ≡ ((job_shown claims w.pipeline.project job (row_at o.rows.items (slice_index_or o.places.items 0 0)).status).0, its_changes)
-      → (p : Planned Reply) → (p.answer, p.changes) ≡ plan → p.cleared.items ≡ [] → p.beside.rows.items ≡ o.changed.items → p.beside.indexes.items ≡ indexes
-      → PlansFor k (ActsAs act k.state k.board (Ok job) (p.answer, p.changes)) p
-  job_planned shown some plan plan_is p same none same_rows same_indexes =
+      → {p : Planned Reply} {b : Beside} → IsPlanned plan b p → b.rows ≡ o.changed → b.indexes.items ≡ indexes → PlansFor k (ActsAs act k.state k.board (Ok job) (p.answer, p.changes)) p
+  job_planned shown some plan plan_is {b = b} planned same_rows same_indexes =
       let yes : permits ≡ true = is_done permits o.places.items (λ i. slice_index_or (jobs_of k.state job.pipeline) i job) job (done.outcome.jobs job ∙ one) some in
       let alone : acted_jobs act (Some job.id) k.state k.board job.pipeline ≡ job ∷ [] = one ∙ cond-true permits (job ∷ []) [] yes in
       let v = shown act k.state k.board job o kept.sound has yes done.outcome in
@@ -263,8 +254,8 @@ module _ (k : Kept) (kept : IsKept k) (act : Act) (job : Job) (has : Contains k.
       ∙ ap (λ (q : Plan). (q.0, its_changes)) (shown_then alone (row_at o.rows.items v.0).status)) in
       let made : ActsAs act k.state k.board (Ok job) plan =
       subst (λ b. ActsOn k.state does (if b then Ok job else Err (refusal_of act)) plan) (sym yes) (subst (ShowsJobAfter k.state job its_changes) (sym is) v.1.1) in
-      plans_with k (ActsAs act k.state k.board (Ok job)) plan p same none made
-      (done_settles act (Some job.id) k job.pipeline w o indexes claims done plan.1 p.beside (ap (λ (q : Plan). q.1) plan_is ∙ ap (act_changes act k.state) (sym alone)) same_rows same_indexes)
+      plans_so k (ActsAs act k.state k.board (Ok job)) planned made
+      (done_settles act (Some job.id) k job.pipeline w o indexes claims done plan.1 b (ap (λ (q : Plan). q.1) plan_is ∙ ap (act_changes act k.state) (sym alone)) same_rows same_indexes)
 
   -- its status doesn't permit it
   pub job_refused : length o.places.items ≡ 0 → (plan : Plan) → plan ≡ refused (refusal_of act) → ActsAs act k.state k.board (Ok job) plan
@@ -316,16 +307,15 @@ module _ (k : Kept) (kept : IsKept k) (n : ℕ) (w : Whole) (whole : IsWhole k n
   are_cancelled : CancelsAre → act_changes Cancel k.state acted ≡ cancel k.state.attempts cancellable
   are_cancelled cancels_are = cancels_are k.state acted ∙ ap (cancel k.state.attempts) (all k.state k.board n)
 
-  settles_so : CancelIs → (changes : List RowChange) (beside : Beside) → changes ≡ cancel w.records.attempts.items chosen → beside.rows.items ≡ o.changed.items → beside.indexes.items ≡ indexes → Settles k changes beside
+  settles_so : CancelIs → (changes : List RowChange) (beside : Beside) → changes ≡ cancel w.records.attempts.items chosen → beside.rows ≡ o.changed → beside.indexes.items ≡ indexes → Settles k changes beside
   settles_so cancels changes beside same same_rows same_indexes =
       done_settles Cancel None k n w o indexes claims done changes beside (same ∙ looked_up cancels) same_rows same_indexes
 
   -- some of its jobs can be cancelled
   pub pipeline_planned : PipelineIsShown → CancelsAre → CancelIs → w.pipeline.id ≡ n → 0 < length chosen → (plan : Plan)
       → plan ≡ ((pipeline_shown w.pipeline claims w.records.jobs.items o.facts.items o.rows.items).0, cancel w.records.attempts.items chosen)
-      → (y : Planned Reply) → (y.answer, y.changes) ≡ plan → y.cleared.items ≡ [] → y.beside.rows.items ≡ o.changed.items → y.beside.indexes.items ≡ indexes
-      → PlansFor k (CancelsSome k.state w.pipeline cancellable (y.answer, y.changes)) y
-  pipeline_planned shown cancels_are cancels number some plan plan_is y same none same_rows same_indexes =
+      → {y : Planned Reply} {b : Beside} → IsPlanned plan b y → b.rows ≡ o.changed → b.indexes.items ≡ indexes → PlansFor k (CancelsSome k.state w.pipeline cancellable (y.answer, y.changes)) y
+  pipeline_planned shown cancels_are cancels number some plan plan_is {b = b} planned same_rows same_indexes =
       let s = k.state in
       let p = w.pipeline in
       let both : act_changes Cancel s acted ≡ cancel s.attempts cancellable = are_cancelled cancels_are in
@@ -342,7 +332,7 @@ module _ (k : Kept) (kept : IsKept k) (n : ℕ) (w : Whole) (whole : IsWhole k n
       = subst (λ (cs : List RowChange). ShowsPipelineAfter s p cs plan) both (subst (ShowsPipelineAfter s p (act_changes Cancel s acted)) (sym is) by_law) in
       let made : CancelsSome s p cancellable plan
       = some_cancelled s p cancellable plan (subst (λ (js : List Job). 0 < length js) chosen_is some) shows in
-      plans_with k (CancelsSome s p cancellable) plan y same none made (settles_so cancels plan.1 y.beside (ap (λ (q : Plan). q.1) plan_is) same_rows same_indexes)
+      plans_so k (CancelsSome s p cancellable) planned made (settles_so cancels plan.1 b (ap (λ (q : Plan). q.1) plan_is) same_rows same_indexes)
 
   -- none can be
   pub pipeline_refused : length chosen ≡ 0 → (plan : Plan) → plan ≡ refused M12 → CancelsSome k.state w.pipeline cancellable plan
@@ -350,12 +340,11 @@ module _ (k : Kept) (kept : IsKept k) (n : ℕ) (w : Whole) (whole : IsWhole k n
 
   -- a sweep cancels those that can be
   pub redundant_planned : CancelsAre → CancelIs → (p : Pipeline) (plan : Swept × List RowChange) → plan ≡ sweep None (Some p) w.records.attempts.items chosen
-      → (y : Planned Swept) → (y.answer, y.changes) ≡ plan → y.cleared.items ≡ [] → y.beside.rows.items ≡ o.changed.items → y.beside.indexes.items ≡ indexes
-      → PlansFor k ((y.answer, y.changes) ≡ sweep None (Some p) k.state.attempts cancellable) y
-  redundant_planned cancels_are cancels p plan plan_is y same none same_rows same_indexes =
-      plans_with k (λ (q : Swept × List RowChange). q ≡ sweep None (Some p) k.state.attempts cancellable) plan y same none
+      → {y : Planned Swept} {b : Beside} → IsPlanned plan b y → b.rows ≡ o.changed → b.indexes.items ≡ indexes → PlansFor k ((y.answer, y.changes) ≡ sweep None (Some p) k.state.attempts cancellable) y
+  redundant_planned cancels_are cancels p plan plan_is {b = b} planned same_rows same_indexes =
+      plans_so k (λ (q : Swept × List RowChange). q ≡ sweep None (Some p) k.state.attempts cancellable) planned
       (plan_is ∙ ap (λ (cs : List RowChange). ((sweep None (Some p) [] []).0, cs)) (looked_up cancels ∙ are_cancelled cancels_are))
-      (settles_so cancels plan.1 y.beside (ap (λ (q : Swept × List RowChange). q.1) plan_is) same_rows same_indexes)
+      (settles_so cancels plan.1 b (ap (λ (q : Swept × List RowChange). q.1) plan_is) same_rows same_indexes)
 
 -- ---- what is found
 
@@ -441,7 +430,3 @@ status_at o count place row some all long at is =
     let low : slice_index_or o.places.items 0 place < count = all 0 place some in
     let inside : place < length o.rows.items = subst (λ n. n < length o.rows.items) (sym at) (subst (λ n. slice_index_or o.places.items 0 place < n) (sym long) low) in
     is ∙ (get_or_default o.rows.items place row no_row inside ∙ ap (row_at o.rows.items) first)
-
--- what is handed on as well done is the same
-pub ok_same : {A B : Type 0} (f : A → B) (x y : A) → ◌≡◌ {A = Result A StoreFault} (Ok x) (Ok y) → f y ≡ f x
-ok_same f x y e = let same : x ≡ y = cc in sym (ap f same)

@@ -1,6 +1,6 @@
 -- A grant: the job's own row is put, and its group is held.
-use Rattle.std.proofs.Common.{◌≡◌, ◌↔◌, if◌then◌else◌, ℕ, Bool, true, false, ◌&&◌, nat_lt, List, [], ◌∷◌, Some, Contains, refl, sym, ap, subst, ◌∙◌}
-use Rattle.std.proofs.lemmas.Bool.{cond_both}
+use Rattle.std.proofs.Common.{◌≡◌, ◌↔◌, if◌then◌else◌, ℕ, Bool, true, false, nat_lt, List, [], ◌∷◌, Some, Contains, refl, sym, ap, subst, ◌∙◌}
+use Rattle.std.proofs.lemmas.Bool.{cond_both, and_parts}
 use Rattle.std.proofs.lemmas.List.Elements.{All-contains, All-contains_itself, All-filter, filter_passes}
 use Rattle.ci_machine_steps.specs.Prelude.{Live, MAX_NUMBER, Status, Counter, IndexChange, Record, RowChange, Attempt, BoardRow, Job, JobVariable, QueuedJob, Runner, M15, Seed}
 use Rattle.ci_machine_steps.specs.Prelude.{may_run, resource_free, is_eligible, grant, granted, holds_group, AreIndexes, Kept, put_rows, written, groups_in, Plan, refused}
@@ -30,10 +30,6 @@ record IsPendingOffer (s : State) (board : List BoardRow) (q : QueuedJob) : Type
   pub is : queued s q.job ≡ q
   pub free : resource_free (groups_in s board) (queued s q.job) ≡ true
 
-second : (a b : Bool) → (a && b) ≡ true → b ≡ true
-second true b e = e
-second false b e = absurd (cc)
-
 offered_is_pending : (s : State) (board : List BoardRow) (runner : Runner) (q : QueuedJob) → offer s board (Some runner) ≡ Some q → IsPendingOffer s board q
 offered_is_pending s board runner q e =
     let found = found_in_map (queued s) (is_eligible runner (groups_in s board)) (pending_jobs s board) q e in
@@ -46,7 +42,7 @@ offered_is_pending s board runner q e =
       there = subst (Contains s.jobs) its there;
       pending = subst (λ (j : Job). is_pending board j ≡ true) its pending;
       is = is;
-      free = ap (resource_free (groups_in s board)) is ∙ second (may_run runner q.project q.job.options.tags) (resource_free (groups_in s board) q) eligible;
+      free = ap (resource_free (groups_in s board)) is ∙ (and_parts (may_run runner q.project q.job.options.tags) (resource_free (groups_in s board) q) eligible).1;
     }
 
 -- what is put and held beside a grant: nothing, where it is refused

@@ -3,21 +3,16 @@ use Rattle.std.proofs.Common.{◌≡◌, ℕ, Bool, true, false, ◌&&◌, ◌||
 use Rattle.std.proofs.Common.{eqb-true}
 use Rattle.std.specs.List.{list_any, AllByRecursion}
 use Rattle.std.specs.Str.{bytes_eq}
-use Rattle.std.proofs.lemmas.Bool.{cond_both, cases_Bool, and_parts}
+use Rattle.std.proofs.lemmas.Bool.{cond_both, cases_Bool, and_parts, and_right}
 use Rattle.std.proofs.lemmas.Slice.Eq.{bytes_eq-Decides}
-use Rattle.ci_machine_steps.specs.Prelude.{Status, Attempt, Holder, Job, Pipeline, IndexChange, Hold, Free, Close, State, Kept, indexed, indexed_all, holds, AreHolders}
+use Rattle.ci_machine_steps.specs.Prelude.{Status, Attempt, Holder, Job, Pipeline, IndexChange, Hold, Free, State, Kept, indexed, indexed_all, holds, AreHolders}
 use Rattle.ci_machine_steps.specs.Prelude.{is_unfinished}
-use Rattle.ci_machine.specs.declared.change.IndexChange.TheVariants.{Open}
 use Rattle.ci_machine.specs.Holders as holders
 use Rattle.ci_machine.proofs.Keyed.{has_from_all, All-from_has}
 use Rattle.ci_server_lookups.specs.Prelude.{turned_by, of_pipeline, is_unheld, HoldAlike, frees, still_held}
 use Rattle.ci_server_lookups.proofs.Holds.{kept_alike}
 
 -- ---- tests
-
-never : (b : Bool) → (b && false) ≡ false
-never true = refl
-never false = refl
 
 and_true : (b : Bool) → b ≡ (b && true)
 and_true true = refl
@@ -44,7 +39,7 @@ any_filter q t b (x ∷ xs) same =
     (λ n. ap (λ v. v || list_any q (filter t xs)) n ∙ (any_filter q t b xs same ∙ sym (ap (λ v. (v || list_any q xs) && b) n)))
     (cases_Bool (q x)))
     (λ no. ⊎_elim
-    (λ p. let is : b ≡ false = sym (same x p) ∙ no in any_filter q t b xs same ∙ (ap (λ v. list_any q xs && v) is ∙ (never (list_any q xs) ∙ sym (λ i. (p i || list_any q xs) && is i))))
+    (λ p. let is : b ≡ false = sym (same x p) ∙ no in any_filter q t b xs same ∙ (ap (λ v. list_any q xs && v) is ∙ (and_right (list_any q xs) false refl ∙ sym (λ i. (p i || list_any q xs) && is i))))
     (λ n. any_filter q t b xs same ∙ sym (ap (λ v. (v || list_any q xs) && b) n))
     (cases_Bool (q x)))
 
@@ -53,15 +48,11 @@ any_filter q t b (x ∷ xs) same =
 -- the change holds no group
 abbrev pub HoldsNone : IndexChange → Type 0
 HoldsNone (Hold h) = ⊥
-HoldsNone (Free project group) = Unit {0}
-HoldsNone (Open u) = Unit {0}
-HoldsNone (Close pipeline) = Unit {0}
+HoldsNone _ = Unit {0}
 
 frees_alike : (g h : Holder) → g.project ≡ h.project → g.group ≡ h.group → (c : IndexChange) → frees g c ≡ frees h c
-frees_alike g h p q (Hold x) = refl
 frees_alike g h p q (Free project group) = λ i. (p i == project) && bytes_eq (q i) group
-frees_alike g h p q (Open u) = refl
-frees_alike g h p q (Close pipeline) = refl
+frees_alike g h p q _ = refl
 
 freed_alike : (g h : Holder) → g.project ≡ h.project → g.group ≡ h.group → (changes : List IndexChange) → list_any (frees g) changes ≡ list_any (frees h) changes
 freed_alike g h p q [] = refl
@@ -97,8 +88,7 @@ module _ (project : ℕ) (group : List ℕ) where
       ∙ (ap (λ b. b && not (is_freed cs))
       (any_filter its (λ h. not (holds p g h)) (not (holds p g holder)) k.holders (λ h e. ap not (frees_alike h holder (its_project h e) (its_group h e) (Free p g))))
       ∙ and_neither (list_any its k.holders) (holds p g holder) (is_freed cs))
-  kept_after (Open u ∷ cs) k none = kept_after cs (indexed (Open u) k) none.1
-  kept_after (Close p ∷ cs) k none = kept_after cs (indexed (Close p) k) none.1
+  kept_after (c ∷ cs) k none = kept_after cs (indexed c k) none.1
 
 module _ (s t : State) (k : Kept) (changes : List IndexChange) (none : AllByRecursion HoldsNone changes) (before : AreHolders s k.holders) (after : AreHolders t (indexed_all changes k).holders)
     (project : ℕ) (found : List Holder) where

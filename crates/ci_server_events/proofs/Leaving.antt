@@ -1,8 +1,9 @@
 -- Plans that leave all statuses, and so all that stands beside the records.
-use Rattle.std.proofs.Common.{◌≡◌, ℕ, Bool, not, nat_lt, List, [], length, Option, Some, None, Result, Ok, Err, Contains, refl, sym, subst}
+use Rattle.std.proofs.Common.{◌≡◌, ℕ, Bool, not, nat_lt, List, [], length, Option, Some, None, Result, Ok, Err, IfOk, IfErr, Contains, refl, sym, subst}
 use Rattle.std.specs.List.{AllByRecursion}
 use Rattle.std.specs.Str.{bytes_eq}
 use Rattle.std.proofs.lemmas.Bool.{cond_both}
+use Rattle.std.proofs.lemmas.Result.{IfOk-weaker}
 use Rattle.ci_machine_steps.specs.Prelude.{is_name, MAX_NUMBER, is_variable_name, IndexChange, RowChange, Lease, PieceFault, Attempt, BoardRow, GroupOrder, Project, Runner}
 use Rattle.ci_machine_steps.specs.Prelude.{Variable, Body, Code, M2, M5, M15, Detail, K, Reply, NewMode, NewRunner, NewVariable, Request, Seed, TracePart, SetsFile, set_file}
 use Rattle.ci_machine_steps.specs.Prelude.{AreIndexes, Kept, cleared, put_rows, written, accepted, mode_change, set_mode, Plan, refused, faulted, add_project, made_project}
@@ -14,7 +15,8 @@ use Rattle.ci_machine_plans.specs.Refusals.{unmade}
 use Rattle.ci_machine_plans.specs.declared.replies.Refusal.{Refusal}
 use Rattle.ci_server_lookups.specs.Prelude.{LeavesStatuses, StoreFault, IsKept, HoldsKept}
 use Rattle.ci_store.specs.Prelude.{LoadsBy}
-use Rattle.ci_server_lookups.proofs.Loading.{of_kept}
+use Rattle.ci_server_lookups.proofs.Loading.{carries}
+use Rattle.ci_server_lookups.proofs.Loading.{if_kept}
 use Rattle.ci_server_events.specs.declared.planned.Beside.{Beside}
 use Rattle.ci_server_events.specs.declared.planned.Planned.{Planned}
 use Rattle.ci_server_events.specs.Planning.{PlansFor, Settles}
@@ -124,9 +126,25 @@ plans_with {A = A} k Makes plan p same none makes settles = record {
       (subst (λ (q : A × List RowChange). Settles k q.1 p.beside) (sym same) settles);
 }
 
+-- the plan with what was found beside it
+abbrev pub IsPlanned : {A : Type 0} → A × List RowChange → Beside → Planned A → Type 0
+IsPlanned plan b p = ((p.answer, p.changes) ≡ plan) × (p.cleared.items ≡ []) × (◌≡◌ {A = Result Beside StoreFault} (Ok b) (Ok p.beside))
+
+pub plans_so : {A : Type 0} (k : Kept) (Makes : A × List RowChange → Type 0) {plan : A × List RowChange} {b : Beside} {p : Planned A} → IsPlanned plan b p
+    → Makes plan → Settles k plan.1 b → PlansFor k (Makes (p.answer, p.changes)) p
+plans_so k Makes {plan = plan} {b = b} {p = p} made makes settles =
+    let same : b ≡ p.beside = cc (made.2) in
+    plans_with k Makes plan p made.0 made.1 makes (subst (Settles k plan.1) same settles)
+
+-- what was looked up beside a plan is so of what is beside it
+pub with_beside : {T A : Type 0} {honest : T → Type 0} {holds : T → Kept → Type 0} {leaves : T → Kept → Kept → Type 0} {Q : Kept → Beside → Type 0} {a b : T} {beside : Result Beside StoreFault} {r : Result (Planned A) StoreFault}
+    (plan : A × List RowChange) → LoadsBy honest holds leaves a b beside Q → IfOk r (λ p. ((p.answer, p.changes) ≡ plan) × (p.cleared.items ≡ []) × (beside ≡ Ok p.beside)) → IfErr r (λ fault. beside ≡ Err fault) → LoadsBy honest holds leaves a b r (λ k p. Q k p.beside)
+with_beside {honest = honest} {holds = holds} {leaves = leaves} {a = a} {b = b} {beside = beside} {r = r} plan load planned fault =
+    carries honest holds leaves (λ p. p.beside) a b beside r load (IfOk-weaker r _ _ (λ p w. w.2) planned) fault
+
 -- what is planned for a request is planned for this one, which is that
-pub asked_so : {T : Type 0} (honest : T → Type 0) (holds : T → Kept → Type 0) (leaves : T → Kept → Kept → Type 0) (a b : T) (r : Result (Planned Reply) StoreFault) (request asked : Request) (now : ℕ) (seed : Seed) → request ≡ asked
+pub asked_so : {T : Type 0} {honest : T → Type 0} {holds : T → Kept → Type 0} {leaves : T → Kept → Kept → Type 0} {a b : T} {r : Result (Planned Reply) StoreFault} {request asked : Request} (now : ℕ) (seed : Seed) → request ≡ asked
     → LoadsBy honest holds leaves a b r (λ k p. IsKept k → PlansFor k (Does k.state k.board asked now seed (p.answer, p.changes)) p)
     → LoadsBy honest (HoldsKept holds) leaves a b r (λ k p. IsKept k → PlansFor k (Does k.state k.board request now seed (p.answer, p.changes)) p)
-asked_so honest holds leaves a b r request asked now seed is load =
-    of_kept honest holds leaves a b r (subst (λ (q : Request). LoadsBy honest holds leaves a b r (λ k p. IsKept k → PlansFor k (Does k.state k.board q now seed (p.answer, p.changes)) p)) (sym is) load)
+asked_so {honest = honest} {holds = holds} {leaves = leaves} {a = a} {b = b} {r = r} now seed is load =
+    if_kept (subst (λ (q : Request). LoadsBy honest holds leaves a b r (λ k p. IsKept k → PlansFor k (Does k.state k.board q now seed (p.answer, p.changes)) p)) (sym is) load)

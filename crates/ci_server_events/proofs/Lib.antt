@@ -4,6 +4,7 @@ pub mod Showing
 pub mod Telling
 pub mod Held
 pub mod Leaving
+pub mod Asking
 pub mod Granting
 pub mod Creating
 pub mod Settles

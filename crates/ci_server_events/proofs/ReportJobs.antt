@@ -1,29 +1,19 @@
 -- The jobs of a pipeline, as what was looked up tells them.
-use Rattle.std.proofs.Common.{◌≡◌, ℕ, Bool, true, List, [], ◌∷◌, ◌++◌, length, map, filter, ◌==◌, Result, Ok, Err, IfErr, IsErrAnd, refl, sym, ap, subst, ◌∙◌, eqb-true}
-use Rattle.ci_machine_steps.specs.Prelude.{Facts, Row, Status, Attempt, Claim, Job, Pipeline, PipelineWithStatus, status_of_jobs, is_free, held_claim, with_status, Kept, is_within}
+use Rattle.std.proofs.Common.{◌≡◌, ℕ, Bool, true, List, ◌++◌, length, map, filter, ◌==◌, refl, sym, ap, subst, ◌∙◌, eqb-true}
+use Rattle.ci_machine_steps.specs.Prelude.{Facts, Row, Status, Attempt, Claim, Job, Pipeline, status_of_jobs, is_free, held_claim, with_status, Kept, is_within}
 use Rattle.ci_machine_steps.specs.Prelude.{pending_status, shown_status, job_row, job_rows, groups_in, claims_in, jobs_of, attempts_of, facts_of, rows_of, row_for, status_for}
 use Rattle.ci_machine.proofs.Keyed.{Has, has_find, has_from_all}
 use Rattle.ci_machine.proofs.Filters.{filter_implied}
-use Rattle.ci_machine_statuses.proofs.Puts.{map_same}
+use Rattle.ci_machine_statuses.proofs.Puts.{map_same, map_twice}
 use Rattle.ci_server_lookups.specs.Prelude.{FreeAlike, IsWhole}
 use Rattle.ci_server_lookups.specs.declared.records.Whole.{Whole}
 use Rattle.ci_server_lookups.proofs.Claiming.{with_alike}
 use Rattle.ci_server_events.specs.Told.{job_told}
 
-map_map : {A B C : Type 0} (g : B → C) (f : A → B) (xs : List A) → map g (map f xs) ≡ map (λ x. g (f x)) xs
-map_map g f [] = refl
-map_map g f (x ∷ xs) = ap (λ l. g (f x) ∷ l) (map_map g f xs)
-
 -- by claims on the same of its groups a job is told alike
 shown_alike : (cs ds : List Claim) (project : ℕ) (j : Job) (s : Status) → is_free cs project j.options.resource_group ≡ is_free ds project j.options.resource_group → shown_status cs project j s ≡ shown_status ds project j s
-shown_alike cs ds project j Status.Created same = refl
 shown_alike cs ds project j Status.Pending same = ap pending_status same
-shown_alike cs ds project j Status.Running same = refl
-shown_alike cs ds project j Status.Success same = refl
-shown_alike cs ds project j Status.Failed same = refl
-shown_alike cs ds project j Status.Canceled same = refl
-shown_alike cs ds project j Status.Skipped same = refl
-shown_alike cs ds project j Status.Manual same = refl
+shown_alike cs ds project j _ same = refl
 
 module _ (k : Kept) (id : ℕ) (w : Whole) (whole : IsWhole k id w) where
   number : w.pipeline.id ≡ id
@@ -64,16 +54,9 @@ module _ (k : Kept) (id : ℕ) (w : Whole) (whole : IsWhole k id w) where
 
   -- with these rows of their statuses
   pub rows_told : (rows : List Row) → rows ≡ rows_of k.state k.board id → rows ≡ map (λ j. row_for k.board j.id) w.records.jobs.items
-  rows_told rows is = is ∙ map_map (row_for k.board) (λ (j : Job). j.id) (jobs_of k.state id) ∙ ap (map (λ (j : Job). row_for k.board j.id)) (sym whole.records.are_jobs)
+  rows_told rows is = is ∙ map_twice (row_for k.board) (λ (j : Job). j.id) (jobs_of k.state id) ∙ ap (map (λ (j : Job). row_for k.board j.id)) (sym whole.records.are_jobs)
 
-  -- and the pipeline with its status
-  pub head_told : (st : Status) (facts : List Facts) (rows : List Row) → facts ≡ facts_of k.state id → rows ≡ rows_of k.state k.board id → st ≡ status_of_jobs w.records.jobs.items facts rows
-      → ◌≡◌ {A = PipelineWithStatus} (record { pipeline = w.pipeline; status = st }) (with_status k.state k.board w.pipeline)
-  head_told st facts rows are_facts are_rows is =
-      let its = is ∙ (λ i. status_of_jobs (whole.records.are_jobs i) (are_facts i) (are_rows i)) ∙ ap (λ n. status_of_jobs (jobs_of k.state n) (facts_of k.state n) (rows_of k.state k.board n)) (sym number) in
-      ap (λ (s : Status). record { pipeline = w.pipeline; status = s }) its
-
--- what holds of a fault holds of it where it is handed on
-pub passed_on : {A E : Type 0} (r : Result A E) (x : E) (P : E → Type 0) → IsErrAnd r (λ e. e ≡ x) → P x → IfErr r P
-passed_on (Ok a) x P is p = tt
-passed_on (Err e) x P is p = subst P (sym is) p
+  -- and its status
+  pub status_told : (facts : List Facts) (rows : List Row) → facts ≡ facts_of k.state id → rows ≡ rows_of k.state k.board id → status_of_jobs w.records.jobs.items facts rows ≡ (with_status k.state k.board w.pipeline).status
+  status_told facts rows are_facts are_rows =
+      (λ i. status_of_jobs (whole.records.are_jobs i) (are_facts i) (are_rows i)) ∙ ap (λ n. status_of_jobs (jobs_of k.state n) (facts_of k.state n) (rows_of k.state k.board n)) (sym number)

@@ -1,14 +1,14 @@
 -- Which attempts the plans of events move, and how what changes beside them settles them.
 use Rattle.std.proofs.Common.{◌≡◌, ℕ, Bool, true, false, max, ◌==◌, List, [], ◌∷◌, find, Some, None, Result, Ok, Err, Contains, refl, sym, ap, subst, ◌∙◌, inl, inr, ⊎_elim}
-use Rattle.std.proofs.Common.{eqb-true}
+use Rattle.std.proofs.Common.{eqb-true, All, IfSome, Option}
 use Rattle.std.specs.List.{AllByRecursion}
 use Rattle.std.specs.Str.{bytes_eq}
 use Rattle.std.proofs.lemmas.Bool.{cond_both}
 use Rattle.std.proofs.lemmas.List.Elements.{All-contains, All-contains_itself, All-filter, filter_passes}
-use Rattle.ci_machine_steps.specs.Prelude.{AttemptState, Live, Succeeded, Cancelled, is_live_state, Status, Attempt, Job, Need, Pipeline, BoardRow, Lease, LeaseFault, IndexChange}
+use Rattle.ci_machine_steps.specs.Prelude.{AttemptState, Live, is_live_state, Status, Attempt, Job, Need, Pipeline, BoardRow, Lease, LeaseFault, IndexChange}
 use Rattle.ci_machine_steps.specs.Prelude.{Record, RowChange, Put, Report, JobUpdate, M5, status_of_jobs, AreIndexes, Kept, put_rows, written, is_live, is_over, while_leased}
 use Rattle.ci_machine_steps.specs.Prelude.{renewed, first_due, cause_of, Plan, refused, update_job, reported, heard, ended, IsSound, State, applied, AreBoard, lease_of, leases}
-use Rattle.ci_machine_steps.specs.Prelude.{live_attempts, pipeline_at, with_status, ends}
+use Rattle.ci_machine_steps.specs.Prelude.{live_attempts, pipeline_at, with_status, ends, is_within, needs_within, attempts_within, rows_within, jobs_of}
 use Rattle.ci_machine.specs.Prelude.{Failed}
 use Rattle.ci_server_lookups.specs.Prelude.{Settled, HasLive, LeavesStatuses, ended_state, IsSettled, AreRecords, of_pipeline, AreOf, IsKept}
 use Rattle.ci_server_lookups.specs.declared.records.Records.{Records}
@@ -21,13 +21,32 @@ pub number_found : (s : State) (n : ℕ) (p : Pipeline) → pipeline_at s n ≡ 
 number_found s n p there = eqb-true p.id n (found_is_there (λ (q : Pipeline). q.id == n) p s.pipelines there).1
 
 -- what was looked up, as it is lent
-pub of_slices : (s : State) (board : List BoardRow) (p : ℕ) (jobs js : List Job) (needs ws : List Need) (attempts bs : List Attempt) (rows rs : List BoardRow)
+pub of_slices : {s : State} {board : List BoardRow} {p : ℕ} {jobs js : List Job} {needs ws : List Need} {attempts bs : List Attempt} {rows rs : List BoardRow}
     → jobs ≡ js → needs ≡ ws → attempts ≡ bs → rows ≡ rs → AreRecords s board p js ws bs rs → AreRecords s board p jobs needs attempts rows
-of_slices s board p jobs js needs ws attempts bs rows rs same_jobs same_needs same_attempts same_rows are =
-    subst (λ (l : List Job). AreRecords s board p l needs attempts rows) (sym same_jobs)
-    (subst (λ (l : List Need). AreRecords s board p js l attempts rows) (sym same_needs)
-    (subst (λ (l : List Attempt). AreRecords s board p js ws l rows) (sym same_attempts)
-    (subst (λ (l : List BoardRow). AreRecords s board p js ws bs l) (sym same_rows) are)))
+of_slices same_jobs same_needs same_attempts same_rows are = record {
+  first = are.first;
+  last = are.last;
+  inside = subst (All (λ (j : Job). is_within are.first are.last j.id ≡ true)) (sym same_jobs) are.inside;
+  are_jobs = same_jobs ∙ are.are_jobs;
+  are_needs = same_needs ∙ are.are_needs;
+  are_attempts = same_attempts ∙ are.are_attempts;
+  are_rows = same_rows ∙ are.are_rows;
+}
+
+-- so are the records of a pipeline's jobs, between the first of them and the last one
+pub are_found : (k : Kept) {n : ℕ} {range : Option (ℕ × ℕ)} {first last : ℕ} {jobs js : List Job} {needs : List Need} {attempts : List Attempt} {rows : List BoardRow} → IsSound k.state
+    → range ≡ Some (first, last) → IfSome range (λ q. (s : State) (pipeline : ℕ) → IsSound s → jobs ≡ jobs_of s pipeline → All (λ j. is_within q.0 q.1 j.id ≡ true) jobs) → jobs ≡ jobs_of k.state n → js ≡ jobs_of k.state n
+    → needs ≡ needs_within first last k.state.needs → attempts ≡ attempts_within first last k.state.attempts → rows ≡ rows_within first last k.board → AreRecords k.state k.board n js needs attempts rows
+are_found k {n = n} {first = first} {last = last} {jobs = jobs} sound is within its are_jobs are_needs are_attempts are_rows = record {
+  first = first;
+  last = last;
+  inside = subst (All (λ (j : Job). is_within first last j.id ≡ true)) (its ∙ sym are_jobs)
+      (subst (λ z. IfSome z (λ q. (s : State) (pipeline : ℕ) → IsSound s → jobs ≡ jobs_of s pipeline → All (λ j. is_within q.0 q.1 j.id ≡ true) jobs)) is within k.state n sound its);
+  are_jobs = are_jobs;
+  are_needs = are_needs;
+  are_attempts = are_attempts;
+  are_rows = are_rows;
+}
 
 -- ---- what settles changes
 
@@ -47,9 +66,7 @@ settles_by k changes cs beside rows indexes same same_rows same_indexes board ar
 -- what is accepted of an attempt is of a live one
 live_state : {A : Type 0} (state : AttemptState) (over : Bool) (x y : A) → while_leased state over x ≡ Ok y → state ≡ Live
 live_state Live over x y e = refl
-live_state (Succeeded exit) over x y e = absurd (cc)
-live_state (Failed cause exit) over x y e = absurd (cc)
-live_state Cancelled over x y e = absurd (cc)
+live_state _ over x y e = absurd (cc)
 
 heard_moves : (s : State) (a : Attempt) (limit now : ℕ) (r : Result ℕ LeaseFault) → Contains s.attempts a → renewed a limit now ≡ r → MovesOne s (heard a r).1
 heard_moves s a limit now (Err fault) there e = inl refl
@@ -104,12 +121,8 @@ still_moves s changes moves none =
   where
     both_live : (a b : AttemptState) → is_live_state a ≡ true → is_live_state b ≡ true → a ≡ b
     both_live Live Live e f = refl
-    both_live Live (Succeeded x) e f = absurd (cc)
-    both_live Live (Failed c x) e f = absurd (cc)
-    both_live Live Cancelled e f = absurd (cc)
-    both_live (Succeeded x) b e f = absurd (cc)
-    both_live (Failed c x) b e f = absurd (cc)
-    both_live Cancelled b e f = absurd (cc)
+    both_live Live _ e f = absurd (cc)
+    both_live _ b e f = absurd (cc)
 
 -- where they end one, they put it alone
 pub end_moves : (s : State) (changes : List RowChange) (after : Attempt) → MovesOne s changes → attempt_ended changes ≡ Some after

@@ -15,14 +15,8 @@ module _ (cs ds : List Claim) (project : ℕ) where
 
   -- the status of a job is printed alike
   pub printed_alike : (j : Job) (s : Status) → IsAlike j → printed_status cs project j s ≡ printed_status ds project j s
-  printed_alike j Status.Created same = refl
   printed_alike j Status.Pending same = ap (λ b. if b then status_text Status.Pending else codes "waiting_for_resource") same
-  printed_alike j Status.Running same = refl
-  printed_alike j Status.Success same = refl
-  printed_alike j Status.Failed same = refl
-  printed_alike j Status.Canceled same = refl
-  printed_alike j Status.Skipped same = refl
-  printed_alike j Status.Manual same = refl
+  printed_alike j _ same = refl
 
   jobs_alike : (js : List Job) (rows : List Row) → ((j : Job) → Has j js → IsAlike j) → jobs_data cs project js rows ≡ jobs_data ds project js rows
   jobs_alike [] rows same = refl

@@ -1,12 +1,12 @@
 -- What is told of jobs by what was looked up is what is told by the whole state.
-use Rattle.std.proofs.Common.{◌≡◌, ℕ, true, ◌==◌, List, [], ◌∷◌, map, All, Option, Some, IfSome, Result, Ok, refl, sym, ap, subst, inl, inr, eqb-true}
+use Rattle.std.proofs.Common.{◌≡◌, ℕ, true, ◌==◌, List, [], ◌∷◌, map, All, Result, Ok, refl, sym, ap, subst, inl, inr, eqb-true}
 use Rattle.serde_json.specs.Data.{Data}
 use Rattle.ci_machine_steps.specs.Prelude.{is_allowed, Facts, Row, Attempt, Claim, Job, Need, Runner, is_free, attempt_data, needs_among, listed_job_data, told_job, told_jobs}
 use Rattle.ci_machine_steps.specs.Prelude.{is_within, needs_within, attempts_within}
 use Rattle.ci_machine.specs.Listings.{attempts_among}
+use Rattle.ci_machine.proofs.Filters.{filter_implied}
 use Rattle.ci_machine.proofs.Keyed.{Has, has_from_all}
 use Rattle.ci_server_lookups.specs.Prelude.{FreeAlike}
-use Rattle.ci_server_events.proofs.Lists.{filter_implied}
 use Rattle.ci_server_events.proofs.Showing.{printed_alike}
 
 module _ (cs ds : List Claim) (project : ℕ) (runners : List Runner) (first last : ℕ) (needs : List Need) (attempts : List Attempt) where
@@ -48,15 +48,6 @@ module _ (cs ds : List Claim) (project : ℕ) (runners : List Runner) (first las
   pub told_alike : (js : List Job) (fs : List Facts) (rs : List Row) → FreeAlike cs ds project js → All (λ j. is_within first last j.id ≡ true) js
       → told_jobs cs project runners (needs_within first last needs) (attempts_within first last attempts) js fs rs ≡ told_jobs ds project runners needs attempts js fs rs
   told_alike js fs rs alike inside = jobs_same js fs rs (λ j h. has_from_all IsAlike j js alike h) (λ j h. has_from_all IsInside j js inside h)
-
--- what is told alike of each is told alike of all
-pub map_alike : {A B : Type 0} (f g : A → B) → ((x : A) → f x ≡ g x) → (xs : List A) → map f xs ≡ map g xs
-map_alike f g same [] = refl
-map_alike f g same (x ∷ xs) = λ i. same x i ∷ map_alike f g same xs i
-
--- what is found in an option is so
-pub at_some : {A : Type 0} (P : A → Type 0) (o : Option A) (x : A) → o ≡ Some x → IfSome o P → P x
-at_some P o x is so = subst (λ z. IfSome z P) is so
 
 -- two answers that are told are the same
 pub ok_alike : {A E : Type 0} (x y : A) → x ≡ y → ◌≡◌ {A = Result A E} (Ok x) (Ok y)

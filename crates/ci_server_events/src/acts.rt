@@ -8,8 +8,8 @@ ghost use Rattle.ci_store.specs.Prelude.{LoadsBy};
 ghost use Rattle.ci_server_events.specs.Acting.{refusal_of, ActsAs, changes_by, IsDone};
 ghost use Rattle.ci_server_events.specs.Planning.{PlansFor};
 
-use crate::ends::status_before;
 use crate::planned::{Beside, Planned};
+use crate::reads_pipelines::status_by;
 use crate::shows::{asked, asked_pipeline, load_named};
 use ci_board::facts::Status;
 use ci_machine::change::{Changes, IndexChange};
@@ -158,7 +158,8 @@ fn done_among(alloc: Global, whole: &Whole, act: Act, only: Option<u64>) -> Resu
     acts_are_indexed();
     acts_leave_lines();
     let jobs = whole.records.jobs.as_slice();
-    let before = status_before(alloc, &whole.records)?;
+    let attempts = whole.records.attempts.as_slice();
+    let before = status_by(alloc, jobs, attempts, whole.records.rows.as_slice())?;
     let outcome = outcome_among(alloc, &whole.records, act, only)?;
     let chosen = jobs_at(alloc, jobs, outcome.places.as_slice())?;
     let then = status_of(
@@ -171,7 +172,7 @@ fn done_among(alloc: Global, whole: &Whole, act: Act, only: Option<u64>) -> Resu
         alloc,
         &whole.pipeline,
         unleased(act, chosen.as_slice()),
-        whole.records.attempts.as_slice(),
+        attempts,
         before,
         then,
     )?;

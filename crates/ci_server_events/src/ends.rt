@@ -1,26 +1,23 @@
 //! What changes beside the records where an attempt ends.
 
-ghost use Rattle.std.specs.Prelude.{◌≡◌, ◌==◌, ℕ, ◌∷◌, [], false, find, Some, None, IfOk, IfErr, OnOk, option_copied};
+ghost use Rattle.std.specs.Prelude.{◌≡◌, ◌==◌, ◌∷◌, [], false, find, Some, None, IfOk, OnOk, option_copied};
 ghost use Rattle.ci_machine.specs.declared.change.Record.TheVariants as row;
-ghost use Rattle.ci_machine_steps.specs.Prelude.{Put, status_of_jobs, Kept, is_live, jobs_of, facts_of, rows_of, pipeline_at, Job};
-ghost use Rattle.ci_server_lookups.specs.Prelude.{IsGraphOf, HasLive, of_pipeline, AreOf, IsKept, IsRight, Memory};
+ghost use Rattle.ci_machine_steps.specs.Prelude.{Put, Kept, is_live, pipeline_at, Job};
+ghost use Rattle.ci_server_lookups.specs.Prelude.{IsGraphOf, HasLive, of_pipeline, IsKept, IsRight};
 ghost use Rattle.ci_store.specs.Prelude.{LoadsBy};
 ghost use Rattle.ci_server_events.specs.Planning.{Settles, MovesOne, attempt_ended};
 
 use crate::planned::Beside;
-use crate::shows::loaded;
 use ci_board::facts::Status;
 use ci_graph::graph::Net;
 use ci_machine::change::{Changes, IndexChange, Record, RowChange};
 use ci_machine::records::{Attempt, Job, Pipeline};
-use ci_machine_plans::body::status_of;
 use ci_machine_statuses::end::{Ended, end_of};
 use ci_machine_statuses::holder_laws::{end_is_indexed, indexes_stay};
 use ci_machine_statuses::laws::rows_stay;
 use ci_machine_statuses::load::graph_for;
 use ci_machine_statuses::unfinished::of_pipeline;
 use ci_server_lookups::faults::or_store_fault;
-use ci_server_lookups::records::Records;
 use ci_server_lookups::searches::Searches;
 use ci_server_lookups::sheet::Sheet;
 use ci_store::fault::StoreFault;
@@ -156,21 +153,4 @@ fn job_with(jobs: &[Job], number: u64) -> Option<&Job>
     ensures { option_copied result ≡ find (λ j. j.id == number) jobs.now }
 {
     jobs.iter().find(|job| job.id == number)
-}
-
-/// The status of a pipeline with these records. Errors: memory was refused, or they don't fit together.
-pub(crate) fn status_before(alloc: Global, records: &Records) -> Result<Status, StoreFault>
-    ensures status { IfOk result (λ status. (k : Kept) (pipeline : ℕ) → IsKept k → AreOf k pipeline records.now
-        → status ≡ status_of_jobs (jobs_of k.state pipeline) (facts_of k.state pipeline) (rows_of k.state k.board pipeline)) }
-    ensures fault { IfErr result (λ fault. (k : Kept) (pipeline : ℕ) → IsKept k → AreOf k pipeline records.now → fault ≡ Memory) }
-{
-    let jobs = records.jobs.as_slice();
-    let found = loaded(
-        alloc,
-        jobs,
-        records.attempts.as_slice(),
-        records.rows.as_slice(),
-    )?;
-    let status = status_of(alloc, jobs, found.0.as_slice(), found.1.as_slice())?;
-    Ok(status)
 }

@@ -79,8 +79,8 @@ fn status_in<T: Store>(alloc: Global, store: &mut T, number: u64) -> Result<Stat
     status_by(alloc, jobs.as_slice(), attempts.as_slice(), rows.as_slice())
 }
 
-/// The status of a pipeline with these jobs, by at least their attempts and rows.
-fn status_by(
+/// The status of a pipeline with these jobs, by at least their attempts and rows. Errors: memory was refused, or they don't fit together.
+pub(crate) fn status_by(
     alloc: Global,
     jobs: &[Job],
     attempts: &[Attempt],

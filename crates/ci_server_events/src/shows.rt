@@ -88,16 +88,27 @@ pub(crate) fn show_job<T: Turns>(
 {
     let named = load_named(store, query)?;
     match asked(&named, query) {
-        Ok(job) => {
-            let row = store.row(query.job)?;
-            let jobs = slice::from_ref(job);
-            let claims = claims_on(alloc, store, query.project, job.pipeline, jobs)?;
-            let status = status_of(row);
-            let plan = shows::job_shown(alloc, claims.as_slice(), query.project, job, status)?;
-            Ok(Planned::unchanged(alloc, plan))
-        }
+        Ok(job) => found_shown(alloc, store, query, job),
         Err(code) => Ok(Planned::refused(alloc, code)),
     }
+}
+
+/// The job that the query names is shown, by its row and by the resource groups for which it must wait.
+fn found_shown<T: Turns>(
+    alloc: Global,
+    store: &mut T,
+    query: &JobQuery,
+    job: &Job,
+) -> Result<Planned<Reply>, StoreFault>
+    ensures { LoadsBy T.honest T.holds T.leaves store.old store.new result
+        (λ k p. IsKept k → PlansFor k ((p.answer, p.changes) ≡ machine.job_shown (claims_in k.state k.board job.now.pipeline) query.now.project job.now (status_for k.board query.now.job)) p) }
+{
+    let row = store.row(query.job)?;
+    let jobs = slice::from_ref(job);
+    let claims = claims_on(alloc, store, query.project, job.pipeline, jobs)?;
+    let status = status_of(row);
+    let plan = shows::job_shown(alloc, claims.as_slice(), query.project, job, status)?;
+    Ok(Planned::unchanged(alloc, plan))
 }
 
 /// The trace of a job's last attempt is asked for. It is looked up only where the job is the asking project's.

@@ -1,20 +1,19 @@
 //! A pipeline with its jobs, as a report tells them.
 
 ghost use Rattle.std.specs.Prelude.{◌≡◌, ◌++◌, List, ℕ, length, map, IfOk, IfErr};
-ghost use Rattle.ci_machine_steps.specs.Prelude.{BoardRow, held_claim, with_status, Kept, pipeline_at, job_rows, facts_of, rows_of, row_for};
-ghost use Rattle.ci_server_lookups.specs.Prelude.{Memory, IsKept, AreOf, IsWhole};
+ghost use Rattle.ci_machine_steps.specs.Prelude.{BoardRow, held_claim, with_status, Kept, pipeline_at, job_rows, row_for};
+ghost use Rattle.ci_server_lookups.specs.Prelude.{Memory, IsKept, IsWhole};
 ghost use Rattle.ci_store.specs.Prelude.{LoadsBy};
 ghost use Rattle.ci_server_events.specs.Told.{job_told, TellsPipeline};
 
-use ci_board::facts::{Facts, Row};
+use crate::shows::loaded;
+use ci_board::facts::{Row, Status};
 use ci_machine::records::{Attempt, Claim, Job, PipelineWithStatus};
 use ci_machine::report::{JobRow, PipelineRows, ShownStatus};
 use ci_machine_plans::body::status_of;
 use ci_machine_plans::retries::attempts_of;
-use ci_machine_statuses::load::facts_and_rows;
 use ci_server_lookups::claims::claims_with;
-use ci_server_lookups::faults::or_store_fault;
-use ci_server_lookups::records::{Records, Whole, whole_of};
+use ci_server_lookups::records::{Whole, whole_of};
 use ci_server_lookups::turns::Turns;
 use ci_store::fault::StoreFault;
 use ci_store::store::Store;
@@ -32,37 +31,35 @@ pub fn pipeline_rows<T: Turns>(
         return Ok(None);
     }
     let whole = whole_of(alloc, store, id)?;
-    let told = told(alloc, whole)?;
-    Ok(Some(told))
+    let (status, jobs) = told(alloc, &whole)?;
+    let pipeline = whole.pipeline;
+    Ok(Some(PipelineRows {
+        head: PipelineWithStatus { pipeline, status },
+        jobs,
+    }))
 }
 
-/// A pipeline that was looked up, with its jobs. Errors: memory was refused, or the records don't fit together.
-fn told(alloc: Global, whole: Whole) -> Result<PipelineRows, StoreFault>
-    ensures told { IfOk result (λ told. (k : Kept) (id : ℕ) → IsKept k → IsWhole k id whole
-        → (told.head ≡ with_status k.state k.board whole.pipeline) × (told.jobs.items ≡ job_rows k.state k.board whole.pipeline)) }
-    ensures fault { IfErr result (λ fault. (k : Kept) (id : ℕ) → IsKept k → IsWhole k id whole → fault ≡ Memory) }
+/// The status of a pipeline that was looked up, and its jobs. Errors: memory was refused, or the records don't fit together.
+fn told(alloc: Global, whole: &Whole) -> Result<(Status, Vec<JobRow>), StoreFault>
+    ensures told { IfOk result (λ told. (k : Kept) (id : ℕ) → IsKept k → IsWhole k id whole.now
+        → (told.0 ≡ (with_status k.state k.board whole.now.pipeline).status) × (told.1.items ≡ job_rows k.state k.board whole.now.pipeline)) }
+    ensures fault { IfErr result (λ fault. (k : Kept) (id : ℕ) → IsKept k → IsWhole k id whole.now → fault ≡ Memory) }
 {
-    let claims = claims_on(alloc, &whole)?;
-    let Whole {
-        pipeline,
-        records,
-        ..
-    } = whole;
+    let claims = claims_on(alloc, whole)?;
+    let records = &whole.records;
     let jobs = records.jobs.as_slice();
-    let (facts, rows) = standing(alloc, &records)?;
+    let attempts = records.attempts.as_slice();
+    let (facts, rows) = loaded(alloc, jobs, attempts, records.rows.as_slice())?;
     let status = status_of(alloc, jobs, facts.as_slice(), rows.as_slice())?;
     let told = job_rows(
         alloc,
         claims.as_slice(),
-        pipeline.project,
-        records.attempts.as_slice(),
+        whole.pipeline.project,
+        attempts,
         jobs,
         rows.as_slice(),
     )?;
-    Ok(PipelineRows {
-        head: PipelineWithStatus { pipeline, status },
-        jobs: told,
-    })
+    Ok((status, told))
 }
 
 /// For which of the resource groups of its jobs they must wait: those that are held, and those in which others go first.
@@ -70,22 +67,6 @@ fn claims_on(alloc: Global, whole: &Whole) -> Result<Vec<Claim>, AllocError>
     ensures { IfOk result (λ claims. claims.items ≡ map held_claim whole.now.held.items ++ whole.now.ahead.items) }
 {
     claims_with(alloc, whole.held.as_slice(), whole.ahead.as_slice())
-}
-
-/// The facts and the rows of a pipeline's jobs. Errors: memory was refused, or the records don't fit together.
-fn standing(alloc: Global, records: &Records) -> Result<(Vec<Facts>, Vec<Row>), StoreFault>
-    ensures long { IfOk result (λ r. (length r.0.items ≡ length records.now.jobs.items) × (length r.1.items ≡ length records.now.jobs.items)) }
-    ensures facts { IfOk result (λ r. (k : Kept) (id : ℕ) → IsKept k → AreOf k id records.now → r.0.items ≡ facts_of k.state id) }
-    ensures rows { IfOk result (λ r. (k : Kept) (id : ℕ) → IsKept k → AreOf k id records.now → r.1.items ≡ rows_of k.state k.board id) }
-    ensures fault { IfErr result (λ fault. (k : Kept) (id : ℕ) → IsKept k → AreOf k id records.now → fault ≡ Memory) }
-{
-    let found = facts_and_rows(
-        alloc,
-        records.jobs.as_slice(),
-        records.attempts.as_slice(),
-        records.rows.as_slice(),
-    );
-    or_store_fault(found)
 }
 
 /// The jobs of a project with these rows, by at least their attempts and the claims on their groups for which they must wait.

@@ -1,12 +1,11 @@
 use Rattle.std.proofs.Common.{◌≡◌, [], ◌∷◌, slice_index_or, ap, ◌∙◌}
+use Rattle.std.proofs.lemmas.Result.{IfOk-at_ok}
 use Rattle.ci_machine_steps.specs.Prelude.{Row, refused, job_shown}
 use Rattle.ci_board.specs.Prelude.{row_at}
 use Rattle.ci_server_lookups.specs.Prelude.{act_changes}
-use Rattle.ci_server_events.specs.declared.planned.Beside.{Beside}
 use Rattle.ci_server_events.specs.Acting.{changes_by}
 use Rattle.ci_server_lookups.proofs.Loading.{on_ok}
-use Rattle.ci_server_events.proofs.Acting.{changes_are, job_planned, job_refused, not_empty, is_empty, ok_same, status_at}
-use Rattle.ci_server_events.proofs.Found.{at_ok}
+use Rattle.ci_server_events.proofs.Acting.{changes_are, job_planned, job_refused, not_empty, is_empty, status_at}
 use Rattle.ci_server_events.proofs.acts.acted.Goals as goal
 
 -- its status doesn't permit it
@@ -31,14 +30,10 @@ returns c =
     let plan = c.in_ok-plan.plan in
     let some = not_empty _ _ c.is_empty.result c.is_empty.ensures c.if-is_empty.false o.places.ok.0 in
     on_ok c.with.result (λ y is k kept has whole.
-    let planned = at_ok _ _ _ is c.with.ensures.planned in
-    let beside : y.beside ≡ c.into_beside.result = ok_same (λ (b : Beside). b) c.into_beside.result y.beside planned.2 in
     let after : c.index-2.result.now.status ≡ (row_at o.rows.items (slice_index_or o.places.items 0 0)).status =
     ap (λ (r : Row). r.status) (status_at o _ c.index.result.now c.index-2.result.now some c.in_ok-done.ensures.places c.in_ok-done.ensures.long.1 c.index.ensures c.index-2.ensures) in
     let changes : changes_by c.args.act w.records.attempts.items job ≡ act_changes c.args.act k.state (job ∷ []) =
     changes_are c.acts_settle.ensures.play c.acts_are_of_records.ensures.retry c.acts_are_of_records.ensures.cancel c.args.act k job w.records whole.records has in
     job_planned k kept c.args.act job has w whole o d.indexes.items d.claims.items (c.in_ok-done.ensures.done k job.pipeline kept whole) c.acted_jobs_are_asked.ensures.one c.outcomes_are_shown.ensures.job some plan
     (c.in_ok-plan.ensures ∙ (λ i. ((job_shown (c.as_slice.ensures.value i) w.pipeline.project job (after i)).0, changes i)))
-    y planned.0 planned.1
-    (ap (λ (b : Beside). b.rows.items) beside ∙ ap (λ v. v.items) c.into_beside.ensures.rows)
-    (ap (λ (b : Beside). b.indexes.items) beside ∙ ap (λ v. v.items) c.into_beside.ensures.indexes))
+    (IfOk-at_ok _ is c.with.ensures.planned) c.into_beside.ensures.rows (ap (λ v. v.items) c.into_beside.ensures.indexes))

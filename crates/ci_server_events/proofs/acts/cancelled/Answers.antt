@@ -1,9 +1,8 @@
 use Rattle.std.proofs.Common.{length, refl, sym, ap, ◌∙◌}
+use Rattle.std.proofs.lemmas.Result.{IfOk-at_ok}
 use Rattle.ci_machine_steps.specs.Prelude.{cancel, pipeline_shown}
-use Rattle.ci_server_events.specs.declared.planned.Beside.{Beside}
 use Rattle.ci_server_lookups.proofs.Loading.{on_ok}
-use Rattle.ci_server_events.proofs.Acting.{pipeline_planned, pipeline_refused, not_empty, is_empty, ok_same}
-use Rattle.ci_server_events.proofs.Found.{at_ok}
+use Rattle.ci_server_events.proofs.Acting.{pipeline_planned, pipeline_refused, not_empty, is_empty}
 use Rattle.ci_server_events.proofs.acts.cancelled.Goals as goal
 
 -- none can be cancelled
@@ -34,12 +33,8 @@ returns c =
     let d = c.in_ok-done.done in
     let plan = c.in_ok-plan.plan in
     on_ok c.with.result (λ y is k kept whole.
-    let planned = at_ok _ _ _ is c.with.ensures.planned in
-    let beside = ok_same (λ (b : Beside). b) c.into_beside.result y.beside planned.2 in
     pipeline_planned k kept p.id w whole d.outcome d.indexes.items d.claims.items (c.in_ok-done.ensures.done k p.id kept whole) d.chosen.items c.in_ok-done.ensures.chosen c.acted_jobs_are_asked.ensures.all
     c.outcomes_are_shown.ensures.pipeline c.acts_settle.ensures.cancel c.acts_are_of_records.ensures.cancel refl (not_empty _ _ c.is_empty.result c.is_empty.ensures c.if-is_empty.false d.chosen.ok.0) plan
     (c.in_ok-plan.ensures
     ∙ (λ i. ((pipeline_shown p (c.as_slice-3.ensures.value i) (c.as_slice-4.ensures.value i) (c.as_slice-5.ensures.value i) (c.as_slice-6.ensures.value i)).0, cancel (c.as_slice.ensures.value i) (c.as_slice-2.ensures.value i))))
-    y planned.0 planned.1
-    (ap (λ (b : Beside). b.rows.items) beside ∙ ap (λ v. v.items) c.into_beside.ensures.rows)
-    (ap (λ (b : Beside). b.indexes.items) beside ∙ ap (λ v. v.items) c.into_beside.ensures.indexes))
+    (IfOk-at_ok _ is c.with.ensures.planned) c.into_beside.ensures.rows (ap (λ v. v.items) c.into_beside.ensures.indexes))

@@ -1,7 +1,7 @@
 use Rattle.std.proofs.Common.{List, option_copied, subst, sym, ap, ◌∙◌}
 use Rattle.ci_machine_steps.specs.Prelude.{RowChange}
 use Rattle.ci_server_events.specs.Planning.{Settles}
-use Rattle.ci_server_lookups.proofs.Loading.{says}
+use Rattle.ci_server_lookups.proofs.Loading.{implies}
 use Rattle.ci_server_events.proofs.Leaving.{alone_settles}
 use Rattle.ci_server_events.proofs.Settles.{still_moves, end_moves}
 use Rattle.ci_server_events.proofs.ends.beside_changes.Goals as goal
@@ -9,7 +9,7 @@ use Rattle.ci_server_events.proofs.ends.beside_changes.Goals as goal
 -- an attempt ends, and what changes beside it is looked up
 pub returns-in-Some : goal.returns-in-Some
 returns-in-Some g c =
-    says g.T.Store.honest g.T.Store.holds g.T.Store.leaves _ _ _ c.beside_end.result c.beside_end.ensures
+    implies c.beside_end.ensures
     (λ k beside is settles kept moves.
     let one = end_moves k.state c.args.changes.now c.in-Some.after.now moves (sym c.attempt_ended.ensures ∙ ap option_copied c.in-Some.is) in
     subst (λ (cs : List RowChange). Settles k cs beside) (sym one.2) (settles kept one.0 one.1))

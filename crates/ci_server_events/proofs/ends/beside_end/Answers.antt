@@ -2,7 +2,7 @@ use Rattle.std.proofs.Common.{◌≡◌, ℕ, Some, IfOk, subst, sym, ◌∙◌}
 use Rattle.ci_machine_steps.specs.Prelude.{Kept, pipeline_at}
 use Rattle.ci_store.specs.Prelude.{UnlessBroken}
 use Rattle.ci_server_lookups.specs.Prelude.{IsRight}
-use Rattle.ci_server_lookups.proofs.Loading.{with_both}
+use Rattle.ci_server_lookups.proofs.Loading.{joined}
 use Rattle.ci_server_events.proofs.Settles.{number_found}
 use Rattle.ci_server_events.proofs.ends.beside_end.Goals as goal
 
@@ -11,12 +11,11 @@ pub returns : goal.returns
 returns g c =
     let honest = g.T.Store.honest in
     let holds = g.T.Store.holds in
-    let leaves = g.T.Store.leaves in
     let n = c.args.pipeline in
     let m = c.in_ok-sheet.sheet in
     let p = c.in-Some.pipeline in
     let keep = c.keep_sheet.ensures in
-    let both = with_both honest holds leaves _ _ _ c.take_sheet.result m c.pipeline.result c.in_ok-sheet.was c.take_sheet.ensures c.pipeline.ensures in
+    let both = joined c.in_ok-sheet.was c.take_sheet.ensures c.pipeline.ensures in
     let found = λ (h : honest c.keep_sheet.new.self) (k : Kept) (held : holds c.args.store.now k).
     subst (λ r. IfOk r (λ y. (IsRight m k × (m.pipeline ≡ n)) × (y ≡ pipeline_at k.state n))) c.in_ok-pipeline.was (both.answered (keep.honest h) k held) in
     let held_then = λ (h : honest c.keep_sheet.new.self) (k : Kept) (held : holds c.args.store.now k).

@@ -1,9 +1,9 @@
 use Rattle.std.proofs.Common.{◌≡◌, ◌==◌, List, [], ◌∷◌, find, Some, refl, sym, ap, subst, ◌∙◌}
+use Rattle.std.proofs.lemmas.Result.{IfOk-at_ok}
 use Rattle.ci_machine_steps.specs.Prelude.{status_of_jobs, facts_of, rows_of, Job}
 use Rattle.ci_server_lookups.specs.Prelude.{IsGraphOf, of_pipeline, AreOf}
 use Rattle.ci_server_lookups.specs.declared.sheet.Sheet.{Sheet}
 use Rattle.ci_server_events.specs.declared.planned.Beside.{Beside}
-use Rattle.ci_server_events.proofs.Found.{at_ok}
 use Rattle.ci_server_events.proofs.Settles.{of_slices, end_settles}
 use Rattle.ci_server_events.proofs.Sheets.{records_in, its_records, graph_stays, with_graph}
 use Rattle.ci_server_events.proofs.ends.ended.Goals as goal
@@ -15,7 +15,7 @@ returns-clause-kept c = λ k right.
     let e = c.in_ok-ended.ended in
     let of = c.in_ok-graph.ensures.graph k right in
     with_graph k m c.take_graph.new.sheet e.graph c.in_ok-graph.ensures.sheet
-    (graph_stays c.in_ok-graph.graph e.graph m (at_ok _ _ _ c.in_ok-ended.ensures.answer c.end_of.ensures.graph) of) right
+    (graph_stays c.in_ok-graph.graph e.graph m (IfOk-at_ok _ c.in_ok-ended.ensures.answer c.end_of.ensures.graph) of) right
 
 -- the rows that were made of the records settle the end, and so do the indexes
 pub returns-clause-settled : goal.returns-clause-settled
@@ -30,13 +30,13 @@ returns-clause-settled c = λ k kept there right number live over.
     let attempts : c.as_slice-2.result.now ≡ m.attempts.items = c.as_slice-2.ensures.value ∙ ap (λ (x : Sheet). x.attempts.items) same in
     let rows : c.as_slice-3.result.now ≡ m.rows.items = c.as_slice-3.ensures.value ∙ ap (λ (x : Sheet). x.rows.items) same in
     let records : AreOf k p.id (records_in m) = subst (λ n. AreOf k n (records_in m)) number (its_records k m right) in
-    let are = of_slices k.state k.board p.id _ _ m.needs.items m.needs.items _ _ _ _ jobs refl attempts rows records in
+    let are = of_slices jobs refl attempts rows records in
     let of : IsGraphOf c.in_ok-graph.graph c.as_slice.result.now m.needs.items
     = subst (λ (js : List Job). IsGraphOf c.in_ok-graph.graph js m.needs.items) (sym jobs) (c.in_ok-graph.ensures.graph k right) in
-    let settled = at_ok _ _ _ answer c.end_of.ensures.settled k.state k.board p.id m.needs.items kept.sound kept.are_board are of live in
-    let before = at_ok _ _ _ answer c.end_of.ensures.before k.state k.board p.id m.needs.items kept.sound kept.are_board are of
+    let settled = IfOk-at_ok _ answer c.end_of.ensures.settled k.state k.board p.id m.needs.items kept.sound kept.are_board are of live in
+    let before = IfOk-at_ok _ answer c.end_of.ensures.before k.state k.board p.id m.needs.items kept.sound kept.are_board are of
     ∙ ap (λ (js : List Job). status_of_jobs js (facts_of k.state p.id) (rows_of k.state k.board p.id)) (jobs ∙ records.are_jobs) in
-    let then = at_ok _ _ _ answer c.end_of.ensures.then m.needs.items of ∙ ap (λ (js : List Job). status_of_jobs js e.settled.facts.items e.settled.rows.items) jobs in
+    let then = IfOk-at_ok _ answer c.end_of.ensures.then m.needs.items of ∙ ap (λ (js : List Job). status_of_jobs js e.settled.facts.items e.settled.rows.items) jobs in
     let its = c.in_ok-indexes.ensures in
     let job : find (λ j. j.id == c.args.after.now.job) m.jobs.items ≡ Some its.0 = subst (λ (x : Sheet). find (λ j. j.id == c.args.after.now.job) x.jobs.items ≡ Some its.0) same its.1 in
     let indexes = its.2 ∙ ap (λ (x : Sheet). of_pipeline p (its.0 ∷ []) x.attempts.items e.before e.then) same in

@@ -1,7 +1,7 @@
 use Rattle.std.proofs.Common.{◌≡◌, Some, None, Option, subst, sym, ap, ◌∙◌}
 use Rattle.ci_machine_steps.specs.Prelude.{Runner, offer, offered_variables, runner_with}
 use Rattle.ci_machine_steps.specs.Grants as machine
-use Rattle.ci_server_lookups.proofs.Loading.{gives, goes_on}
+use Rattle.ci_server_lookups.proofs.Loading.{yields, continues}
 use Rattle.ci_server_events.specs.Planning.{PlansFor}
 use Rattle.ci_server_events.proofs.grants.ask_job.Goals as goal
 
@@ -10,7 +10,7 @@ pub returns-in-None : goal.returns-in-None
 returns-in-None g c =
     let token = c.args.token in
     let made = c.unchanged in
-    gives g.T.Store.honest g.T.Store.holds g.T.Store.leaves _ _ _ c.runner_with.result c.in_ok-runner_with.field-0 made.result c.in_ok-runner_with.was c.runner_with.ensures
+    yields c.in_ok-runner_with.was c.runner_with.ensures
     (λ k found kept.
     let asks = λ (o : Option Runner). machine.ask_job o (offer k.state k.board o) (offered_variables k.state (offer k.state k.board o)) k.state.next.attempt c.args.now c.args.seed in
     let none : runner_with k.state token ≡ None = sym found ∙ c.in-None.is in
@@ -20,7 +20,7 @@ returns-in-None g c =
 pub returns : goal.returns
 returns g c =
     let token = c.args.token in
-    goes_on g.T.Store.honest g.T.Store.holds g.T.Store.leaves _ _ _ _ c.runner_with.result c.in_ok-runner_with.field-0 c.ask_for.result c.in_ok-runner_with.was c.runner_with.ensures c.ask_for.ensures
+    continues c.in_ok-runner_with.was c.runner_with.ensures c.ask_for.ensures
     (λ k y is found planned kept.
     let asks = λ (o : Option Runner). machine.ask_job o (offer k.state k.board o) (offered_variables k.state (offer k.state k.board o)) k.state.next.attempt c.args.now c.args.seed in
     let some : runner_with k.state token ≡ Some c.in-Some.runner = sym found ∙ c.in-Some.is in

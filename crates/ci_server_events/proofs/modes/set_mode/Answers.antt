@@ -2,7 +2,7 @@ use Rattle.std.proofs.Common.{Option, Result, ap, ◌∙◌}
 use Rattle.std.specs.Result.{result_map_both}
 use Rattle.ci_machine_steps.specs.Prelude.{Project, Code, asked_project}
 use Rattle.ci_machine_steps.specs.Modes as machine
-use Rattle.ci_server_lookups.proofs.Loading.{gives}
+use Rattle.ci_server_lookups.proofs.Loading.{yields}
 use Rattle.ci_server_events.proofs.Leaving.{leaves_so, mode_leaves}
 use Rattle.ci_server_events.proofs.modes.set_mode.Goals as goal
 
@@ -13,7 +13,7 @@ of_records-requires g c = λ s. leaves_so s _ _ c.in_ok-plan.ensures (mode_leave
 pub returns : goal.returns
 returns g c =
     let new = c.args.new in
-    gives g.T.Store.honest g.T.Store.holds g.T.Store.leaves _ _ _ c.project_with.result c.in_ok-project.project c.of_records.result c.in_ok-project.was c.project_with.ensures
+    yields c.in_ok-project.was c.project_with.ensures
     (λ k project kept. record {
       made = c.of_records.ensures.plan
           ∙ (c.in_ok-plan.ensures ∙ ap (λ (q : Result Project Code). machine.set_mode q new) (c.asked-found.ensures ∙ ap (λ (o : Option Project). asked_project o new.project) project));

@@ -1,12 +1,13 @@
 use Rattle.std.proofs.Common.{◌≡◌, List, length, map, subst, sym, ap, ◌∙◌}
 use Rattle.std.proofs.lemmas.List.{length-map}
+use Rattle.std.proofs.lemmas.Result.{IfOk-at_ok}
 use Rattle.ci_machine_steps.specs.Prelude.{BoardRow, Claim, Job, claims_in, pipeline_created}
 use Rattle.ci_machine_pipelines.specs.Creations.{creation_view}
 use Rattle.ci_server_lookups.specs.Prelude.{FreeAlike}
-use Rattle.ci_server_lookups.proofs.Loading.{ends, says}
+use Rattle.ci_server_lookups.proofs.Loading.{leads}
 use Rattle.ci_server_events.specs.declared.planned.Beside.{Beside}
 use Rattle.ci_server_events.specs.Creating.{rows_beside, IsMadeBeside}
-use Rattle.ci_server_events.proofs.Found.{at_ok, ok_is}
+use Rattle.ci_server_events.proofs.Found.{ok_is}
 use Rattle.ci_server_events.proofs.Showing.{created_alike}
 use Rattle.ci_server_events.proofs.pipelines.made.Goals as goal
 
@@ -20,17 +21,13 @@ into_plan-requires-clause-rows g c =
 -- the reply shows the rows that are put, and by the claims that were looked up what those of the state show
 pub returns : goal.returns
 returns g c =
-    let honest = g.T.Store.honest in
-    let holds = g.T.Store.holds in
-    let leaves = g.T.Store.leaves in
-    let r = c.with.result in
     let it = c.args.creation in
     let claims = c.in_ok-claims.claims in
     let beside = c.in_ok-beside.beside in
     let plan = c.in_ok-plan.plan in
-    says honest holds leaves _ _ _ r (ends honest holds leaves _ _ c.claims_on.result claims r c.in_ok-claims.was c.claims_on.ensures)
+    leads c.in_ok-claims.was c.claims_on.ensures
     (λ k y is alike kept.
-    let w = at_ok _ _ _ is c.with.ensures.planned in
+    let w = IfOk-at_ok _ is c.with.ensures.planned in
     let its = claims_in k.state k.board it.pipeline.id in
     let same : FreeAlike claims.items its it.pipeline.project it.jobs.items = subst (λ (js : List Job). FreeAlike claims.items its it.pipeline.project js) c.as_slice.ensures.value (alike kept) in
     let shown : plan ≡ pipeline_created c.args.first (creation_view it) its (rows_beside beside) =

@@ -1,7 +1,7 @@
 use Rattle.std.proofs.Common.{◌≡◌, ℕ, true, IfSome, All, Some, map, ap, subst, ◌∙◌}
 use Rattle.ci_machine_steps.specs.Prelude.{Job, is_within, State, jobs_of, IsSound}
 use Rattle.ci_machine_steps.specs.Prunes as machine
-use Rattle.ci_server_lookups.proofs.Loading.{so}
+use Rattle.ci_server_lookups.proofs.Loading.{both_yield}
 use Rattle.ci_server_events.proofs.Pruning.{prune_plans}
 use Rattle.ci_server_events.proofs.prunes.prune.Goals as goal
 
@@ -12,7 +12,7 @@ returns g c =
     let jobs = c.in_ok-jobs.jobs.items in
     let first = c.in-Some.first in
     let last = c.in-Some.last in
-    so g.T.Store.honest g.T.Store.holds g.T.Store.leaves _ _ _ _ c.jobs_of.result c.in_ok-jobs.jobs c.attempts_within.result c.in_ok-attempts.attempts _ c.in_ok-jobs.was c.in_ok-attempts.was c.jobs_of.ensures c.attempts_within.ensures
+    both_yield c.in_ok-jobs.was c.in_ok-attempts.was c.jobs_of.ensures c.attempts_within.ensures
     (λ k its tried kept has finished.
     let inside = subst (λ z. IfSome z (λ r. (s : State) (pipeline : ℕ) → IsSound s → c.as_slice.result.now ≡ jobs_of s pipeline → All (λ j. is_within r.0 r.1 j.id ≡ true) c.as_slice.result.now)) c.in-Some.is c.range_of.ensures.within k.state p.id kept.sound (c.as_slice.ensures.value ∙ its) in
     let all : All (λ (j : Job). is_within first last j.id ≡ true) jobs = subst (All (λ (j : Job). is_within first last j.id ≡ true)) c.as_slice.ensures.value inside in

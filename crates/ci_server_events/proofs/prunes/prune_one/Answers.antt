@@ -1,18 +1,14 @@
 use Rattle.std.proofs.Common.{◌≡◌, Option, sym, subst, ◌∙◌}
 use Rattle.ci_machine_steps.specs.Prelude.{Pipeline, Plan, jobs_in}
 use Rattle.ci_machine_steps.specs.Prunes as machine
-use Rattle.ci_server_lookups.specs.Prelude.{HoldsKept}
-use Rattle.ci_server_lookups.proofs.Loading.{goes_on, of_kept}
+use Rattle.ci_server_lookups.proofs.Loading.{continues, if_kept}
 use Rattle.ci_server_events.specs.Planning.{PlansFor}
 use Rattle.ci_server_events.proofs.Pruning.{found_is}
 use Rattle.ci_server_events.proofs.prunes.prune_one.Goals as goal
 
 pub returns-in-Some : goal.returns-in-Some
 returns-in-Some g c =
-    let honest = g.T.Store.honest in
-    let holds = g.T.Store.holds in
-    let leaves = g.T.Store.leaves in
-    goes_on honest (HoldsKept holds) leaves _ _ _ _ c.first_prunable.result c.in_ok-pipeline.field-0 c.prune.result c.in_ok-pipeline.was c.first_prunable.ensures (of_kept honest holds leaves _ _ _ c.prune.ensures)
+    continues c.in_ok-pipeline.was c.first_prunable.ensures (if_kept c.prune.ensures)
     (λ k y e found plans kept.
     let is = sym c.in-Some.is ∙ found kept in
     let its = found_is k c.args.before c.in-Some.pipeline (sym is) in

@@ -1,17 +1,13 @@
 use Rattle.std.proofs.Common.{◌≡◌, Option, Some, None, sym, ap, ◌∙◌}
 use Rattle.ci_machine_steps.specs.Prelude.{Lease, first_due, leases, redundant_in, cancellable_in, sweep}
-use Rattle.ci_server_lookups.specs.Prelude.{HoldsKept}
-use Rattle.ci_server_lookups.proofs.Loading.{goes_on, of_kept}
+use Rattle.ci_server_lookups.proofs.Loading.{continues, if_kept}
 use Rattle.ci_server_events.proofs.Settles.{due_is_live}
 use Rattle.ci_server_events.proofs.sweeps.plan_sweep.Goals as goal
 
 -- the first lease that is over is that of a live attempt, and it ends
 pub returns-in-Some : goal.returns-in-Some
 returns-in-Some g c =
-    let honest = g.T.Store.honest in
-    let holds = g.T.Store.holds in
-    let leaves = g.T.Store.leaves in
-    goes_on honest (HoldsKept holds) leaves _ _ _ _ c.first_due.result c.in_ok-lease.field-0 c.end.result c.in_ok-lease.was (of_kept honest holds leaves _ _ _ c.first_due.ensures) (of_kept honest holds leaves _ _ _ c.end.ensures)
+    continues c.in_ok-lease.was (if_kept c.first_due.ensures) (if_kept c.end.ensures)
     (λ k y is found ended kept.
     let s = k.state in
     let due : first_due (leases s) c.args.now ≡ Some c.in-Some.lease = sym found ∙ c.in-Some.is in
@@ -25,10 +21,7 @@ returns-in-Some g c =
 -- none is over
 pub returns-in-None : goal.returns-in-None
 returns-in-None g c =
-    let honest = g.T.Store.honest in
-    let holds = g.T.Store.holds in
-    let leaves = g.T.Store.leaves in
-    goes_on honest (HoldsKept holds) leaves _ _ _ _ c.first_due.result c.in_ok-lease.field-0 c.sweep_pipelines.result c.in_ok-lease.was (of_kept honest holds leaves _ _ _ c.first_due.ensures) c.sweep_pipelines.ensures
+    continues c.in_ok-lease.was (if_kept c.first_due.ensures) c.sweep_pipelines.ensures
     (λ k y is found swept kept.
     let s = k.state in
     let none : first_due (leases s) c.args.now ≡ None = sym found ∙ c.in-None.is in

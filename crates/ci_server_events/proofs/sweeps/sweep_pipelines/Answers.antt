@@ -1,17 +1,13 @@
 use Rattle.std.proofs.Common.{◌≡◌, Option, Some, None, sym, ap, ◌∙◌}
 use Rattle.ci_machine_steps.specs.Prelude.{Pipeline, redundant_in, cancellable_in, sweep}
-use Rattle.ci_server_lookups.specs.Prelude.{HoldsKept}
-use Rattle.ci_server_lookups.proofs.Loading.{goes_on, gives, of_kept}
+use Rattle.ci_server_lookups.proofs.Loading.{continues, yields, if_kept}
 use Rattle.ci_server_events.proofs.sweeps.sweep_pipelines.Goals as goal
 
 -- the redundant pipeline is cancelled
 pub returns-in-Some : goal.returns-in-Some
 returns-in-Some g c =
-    let honest = g.T.Store.honest in
-    let holds = g.T.Store.holds in
-    let leaves = g.T.Store.leaves in
-    goes_on honest (HoldsKept holds) leaves _ _ _ _ c.first_redundant.result c.in_ok-pipeline.field-0 c.cancel_redundant.result c.in_ok-pipeline.was c.first_redundant.ensures
-    (of_kept honest holds leaves _ _ _ c.cancel_redundant.ensures)
+    continues c.in_ok-pipeline.was c.first_redundant.ensures
+    (if_kept c.cancel_redundant.ensures)
     (λ k y is found planned kept.
     let s = k.state in
     let its : redundant_in s k.board ≡ Some c.in-Some.pipeline = sym found ∙ c.in-Some.is in
@@ -25,7 +21,7 @@ returns-in-Some g c =
 pub returns-in-None : goal.returns-in-None
 returns-in-None g c =
     let made = c.unchanged in
-    gives g.T.Store.honest (HoldsKept g.T.Store.holds) g.T.Store.leaves _ _ _ c.first_redundant.result c.in_ok-pipeline.field-0 made.result c.in_ok-pipeline.was c.first_redundant.ensures
+    yields c.in_ok-pipeline.was c.first_redundant.ensures
     (λ k found kept.
     let s = k.state in
     let none : redundant_in s k.board ≡ None = sym found ∙ c.in-None.is in

@@ -1,18 +1,10 @@
-use Rattle.std.proofs.Common.{◌≡◌, Ok, Option, Result, sym, ap, subst, ◌∙◌}
-use Rattle.std.specs.Borrow.{Bor}
-use Rattle.std.specs.Result.{result_map_both}
-use Rattle.ci_machine_steps.specs.Prelude.{Project, Code, asked_project, project_with, variable_at}
+use Rattle.std.proofs.Common.{◌≡◌}
+use Rattle.ci_machine_steps.specs.Prelude.{variable_at}
 use Rattle.ci_machine_steps.specs.Variables as machine
-use Rattle.ci_server_lookups.proofs.Loading.{goes_on}
-use Rattle.ci_server_events.specs.Planning.{PlansFor}
+use Rattle.ci_server_events.proofs.Asking.{project_asked}
 use Rattle.ci_server_events.proofs.variables.delete_variable.Goals as goal
 
--- the project that was looked up is the one that is named
 pub returns-in-Ok : goal.returns-in-Ok
 returns-in-Ok g c =
     let query = c.args.query.now in
-    goes_on g.T.Store.honest g.T.Store.holds g.T.Store.leaves _ _ _ _ c.project_with.result c.in_ok-project.project c.delete_from.result c.in_ok-project.was c.project_with.ensures c.delete_from.ensures
-    (λ k y is project gone kept.
-    let asked : asked_project (project_with k.state query.token) query.project ≡ Ok c.in-Ok.found.now =
-    ap (λ (o : Option Project). asked_project o query.project) (sym project) ∙ (sym c.asked.ensures ∙ ap (result_map_both (λ (p : Bor Project). p.now) (λ (e : Code). e)) c.in-Ok.is) in
-    subst (λ (q : Result Project Code). PlansFor k ((y.answer, y.changes) ≡ machine.delete_variable q (variable_at k.state query.project query.key)) y) (sym asked) (gone kept))
+    project_asked (λ k q plan. plan ≡ machine.delete_variable q (variable_at k.state query.project query.key)) query.token query.project c.in_ok-project.was c.project_with.ensures c.asked.ensures c.in-Ok.is c.delete_from.ensures

@@ -1,18 +1,10 @@
-use Rattle.std.proofs.Common.{◌≡◌, Ok, Option, Result, sym, ap, subst, ◌∙◌}
-use Rattle.std.specs.Borrow.{Bor}
-use Rattle.std.specs.Result.{result_map_both}
-use Rattle.ci_machine_steps.specs.Prelude.{Project, Code, asked_project, project_with, project_variables}
+use Rattle.std.proofs.Common.{◌≡◌}
+use Rattle.ci_machine_steps.specs.Prelude.{project_variables}
 use Rattle.ci_machine_steps.specs.Variables as machine
-use Rattle.ci_server_lookups.proofs.Loading.{goes_on}
-use Rattle.ci_server_events.specs.Planning.{PlansFor}
+use Rattle.ci_server_events.proofs.Asking.{project_asked}
 use Rattle.ci_server_events.proofs.variables.set_variable.Goals as goal
 
--- the project that was looked up is the one that is named
 pub returns-in-Ok : goal.returns-in-Ok
 returns-in-Ok g c =
     let new = c.args.new in
-    goes_on g.T.Store.honest g.T.Store.holds g.T.Store.leaves _ _ _ _ c.project_with.result c.in_ok-project.project c.set_in.result c.in_ok-project.was c.project_with.ensures c.set_in.ensures
-    (λ k y is project set kept.
-    let asked : asked_project (project_with k.state new.token) new.project ≡ Ok c.in-Ok.found.now =
-    ap (λ (o : Option Project). asked_project o new.project) (sym project) ∙ (sym c.asked.ensures ∙ ap (result_map_both (λ (p : Bor Project). p.now) (λ (e : Code). e)) c.in-Ok.is) in
-    subst (λ (q : Result Project Code). PlansFor k ((y.answer, y.changes) ≡ machine.set_variable q (project_variables k.state new.project) new) y) (sym asked) (set kept))
+    project_asked (λ k q plan. plan ≡ machine.set_variable q (project_variables k.state new.project) new) new.token new.project c.in_ok-project.was c.project_with.ensures c.asked.ensures c.in-Ok.is c.set_in.ensures
