@@ -239,6 +239,15 @@ EVENTS = {
     'append': Reading.append,
     'sweep': lambda of: Event(),
 }
+# What is read of a project: the event's word, and the numbers behind it.
+READS = {
+    'show-project': '{project}',
+    'list-pipelines': '{project}',
+    'list-jobs': '{project} {pipeline}',
+    'list-attempts': '{project} {job}',
+    'trace-of': '{project} {job} {attempt}',
+    'list-groups': '{project}',
+}
 
 # A request that changes nothing: of a runner that nobody knows.
 POLL = request_of('POST', '/jobs/request', body=b'{"token":"nobody"}')
@@ -286,6 +295,11 @@ class Reply:
             return self.told()
         shown = json.loads(self.body)
         return ' '.join([shown['status'], *(f'{job["name"]}:{job["status"]}' for job in shown['jobs'])])
+
+
+def reads(project=1, pipeline=1, job=1, attempt=1):
+    """A line for each thing that is read of a project."""
+    return [f'{word} {numbers}'.format(project=project, pipeline=pipeline, job=job, attempt=attempt) for word, numbers in READS.items()]
 
 
 def refusal_in(text):

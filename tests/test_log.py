@@ -5,15 +5,15 @@ import stat
 import unittest
 
 from cases import PATH, Case, alter, tell
-from events import is_accepted
+from events import is_accepted, reads
 from world import REQUESTS, until
 
 ASK = ('POST /api/v4/jobs/request HTTP/1.1\r\nContent-Length: 47\r\n\r\n{"token":"r1-' + 'ab' * 16 + '"}').encode()
 HEALTH = b'GET /-/health HTTP/1.1\r\n\r\n'
 # What a server that has no log is asked for too: each kind of request, with tokens in the places where they stand.
 EACH = ['show-project 1', 'set-variable 1 K v', 'delete-variable 1 K', 'set-mode 1 prod oldest_first', 'show-mode 1 prod', 'running j1', 'append j1 0 "hi"', 'success j1',
-        'show-pipeline 1 1', 'show-job 1 1', 'trace 1 1', 'trace-of 1 1 1', 'list-pipelines 1', 'list-jobs 1 1', 'list-attempts 1 1', 'list-groups 1', 'retry 1 1', 'ask r1',
-        'failed j2', 'retry 1 1', 'cancel-job 1 1', 'cancel-pipeline 1 1', 'health', 'show-job 1 9', 'ask other', 'show-project 1 with r1']
+        'show-pipeline 1 1', 'show-job 1 1', 'trace 1 1', *reads(), 'retry 1 1', 'ask r1', 'failed j2', 'retry 1 1', 'cancel-job 1 1', 'cancel-pipeline 1 1', 'health',
+        'show-job 1 9', 'ask other', 'show-project 1 with r1']
 OPENED = 'opened {}: version 2, pipelines under way M, N us'
 UNKNOWN = 'store failed: it is no whole database of this program, or a call of the system failed'
 

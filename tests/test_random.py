@@ -11,7 +11,7 @@ import random
 
 from cases import Case, tell
 from choices import state
-from events import DAY, MODES, quoted
+from events import DAY, MODES, READS, quoted, reads
 from lines import Fault
 from listings import wanted as listed
 from transactions import Log, swept
@@ -89,7 +89,6 @@ try:
   script: x
 """.lstrip(),
 }
-READS = ['show-project', 'list-pipelines', 'list-jobs', 'list-attempts', 'trace-of', 'list-groups']
 # Runners of the instance, with and without tags, and one of each project.
 BEGINNING = ['add-project p', 'add-project p', 'add-runner r', 'add-runner r tags linux,arm tagged-only', 'add-runner r project 1 tags linux',
              'add-runner r project 2', 'set-file 1 mixed', 'set-file 2 other', 'create 1 main', 'create 2 main']
@@ -137,9 +136,8 @@ class Course:
         project, pipeline = 1 + self.below(2), max(1, self.pipelines - self.below(5))
         attempt = max(1, self.counts['attempts'] - self.below(8))
         job = self.granted.get(attempt, 1)
-        return self.random.choice([f'show-project {project}', f'list-pipelines {project}', f'list-groups {project}', f'list-jobs {project} {pipeline}',
-                                   f'list-jobs 1 {pipeline}', f'list-attempts 1 {job}', f'list-attempts 1 {self.job()}', f'trace-of 1 {job} {attempt}',
-                                   f'trace-of 1 {job} {attempt}', f'trace-of 1 {self.job()} {attempt}'])
+        return self.random.choice([*reads(project, pipeline, job, attempt), f'list-attempts 1 {self.job()}', f'trace-of 1 {job} {attempt}', f'trace-of 1 {job} {attempt}',
+                                   f'trace-of 1 {self.job()} {attempt}'])
 
     def request(self):
         if self.below(6) == 0:

@@ -4,10 +4,9 @@ import unittest
 
 from cases import Case, tell
 from choices import state
-from events import is_accepted
+from events import is_accepted, reads
 from listings import MOST, moment, wanted
 
-READS = ['show-project 1', 'list-pipelines 1', 'list-jobs 1 1', 'list-attempts 1 1', 'trace-of 1 1 1', 'list-groups 1']
 CLOSED = '503 M17'
 
 
@@ -91,7 +90,7 @@ class Closed(Case):
         # The store is well again, and the server stays closed.
         self.told('health', CLOSED)
         self.told('health with p1', CLOSED)
-        for line in READS:
+        for line in reads():
             self.told(line, CLOSED)
         self.assertEqual(self.world.exchange(b'GET /-/health HTTP/1.1\r\n\r\n'),
                          b'HTTP/1.1 503 Service Unavailable\r\nContent-Type: application/json\r\nContent-Length: 14\r\nConnection: close\r\n\r\n{"code":"M17"}')
@@ -116,7 +115,7 @@ class Closed(Case):
         self.world.forget_calls()
         # None of these calls fails: writes and syncs are counted.
         self.world.fail_from(1 << 40)
-        for line in READS:
+        for line in reads():
             self.assertTrue(is_accepted(tell(self.world, line)), line)
         self.assertEqual((self.world.calls('db'), self.world.calls('log')), (0, 0))
 

@@ -1,33 +1,25 @@
 """Each path with each method: what it has is no path without a route, and any other method is told which ones it has."""
+import os
+import re
 import unittest
 
 from cases import Case
+from world import HERE
 
-PROJECT = '/api/v4/projects/1'
-# The paths of docs/HTTP.md, with numbers and a name in their places, and the methods that each has.
-PATHS = {
-    '/-/health': ['GET'],
-    '/api/v4/jobs/request': ['POST'],
-    '/api/v4/jobs/1': ['PUT'],
-    '/api/v4/jobs/1/trace': ['PATCH'],
-    PROJECT: ['GET'],
-    f'{PROJECT}/ci_file': ['PUT'],
-    f'{PROJECT}/jobs/1': ['GET'],
-    f'{PROJECT}/jobs/1/attempts': ['GET'],
-    f'{PROJECT}/jobs/1/attempts/1/trace': ['GET'],
-    f'{PROJECT}/jobs/1/cancel': ['POST'],
-    f'{PROJECT}/jobs/1/play': ['POST'],
-    f'{PROJECT}/jobs/1/retry': ['POST'],
-    f'{PROJECT}/jobs/1/trace': ['GET'],
-    f'{PROJECT}/pipeline': ['POST'],
-    f'{PROJECT}/pipelines': ['GET'],
-    f'{PROJECT}/pipelines/1': ['GET'],
-    f'{PROJECT}/pipelines/1/cancel': ['POST'],
-    f'{PROJECT}/pipelines/1/jobs': ['GET'],
-    f'{PROJECT}/resource_groups': ['GET'],
-    f'{PROJECT}/resource_groups/prod': ['GET', 'PUT'],
-    f'{PROJECT}/variables/A': ['DELETE', 'PUT'],
-}
+PAGE = os.path.join(os.path.dirname(HERE), 'docs', 'HTTP.md')
+ROW = re.compile(r'^\| ([A-Z]+) `(/[^`]+)` \|', re.M)
+
+
+def paths():
+    """The paths of the page's table of routes, with numbers and a name in their places, and the methods that each has, in their order."""
+    found = {}
+    with open(PAGE, encoding='utf-8') as page:
+        for method, path in ROW.findall(page.read()):
+            found.setdefault(re.sub(':(id|n|m)', '1', path).replace(':key', 'A'), []).append(method)
+    return {path: sorted(methods) for path, methods in found.items()}
+
+
+PATHS = paths()
 WITH_BODY, OTHERS = ['PATCH', 'POST', 'PUT'], ['DELETE', 'GET', 'HEAD', 'OPTIONS', 'QUERY']
 LACKS = ('HTTP/1.1 405 Method Not Allowed\r\nAllow: {}\r\nContent-Type: application/json\r\nContent-Length: 13\r\nConnection: close\r\n\r\n'
          '{{"code":"H6"}}')
