@@ -32,6 +32,7 @@ class Routes(Case):
 
     def test_each_method_of_each_path(self):
         self.begin('add-project p', 'health')
+        self.assertGreater(len(PATHS), 20, 'the page tells its routes in another form')
         for path, methods in PATHS.items():
             for method in WITH_BODY + OTHERS:
                 answer = self.reply(method, path)
