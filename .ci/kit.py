@@ -39,9 +39,14 @@ def build_below(crate):
     return None
 
 
+def crate_in(name, tree):
+    """Returns the crate of this name in a tree."""
+    return {it.name: it for it in rt.rtlib.crates_below(os.path.realpath(tree))}[name]
+
+
 def checkable(name, tree):
     """Returns the crate of this name in a tree, with those below it built there; ends where one of them can't be."""
-    crate = {it.name: it for it in rt.rtlib.crates_below(os.path.realpath(tree))}[name]
+    crate = crate_in(name, tree)
     if unproved := build_below(crate):
         sys.exit(f"{unproved} isn't proved")
     return crate
