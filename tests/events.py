@@ -5,6 +5,7 @@ import re
 from datetime import date, timedelta
 
 from lines import Fault, Unread, number_in
+from reads import NUMBER, READS
 
 CAUSES = ['unknown_failure', 'script_failure', 'api_failure', 'stuck_or_timeout_failure', 'runner_system_failure',
           'job_execution_timeout']
@@ -28,6 +29,8 @@ class Event:
         self.is_sweep = request is None and command is None
         # The moment of a prune, whose command goes on until none is left.
         self.before = None
+        # What is read of a project, and by which numbers: its words, without those of the token.
+        self.read = None
 
 
 def token_of(word):
@@ -96,8 +99,11 @@ class Reading:
     def keyed(self, kind):
         return lambda: f'/{kind}/{key_in_path(self.words.word())}'
 
-    def attempt_trace(self):
-        return f'/jobs/{self.words.number()}/attempts/{self.words.number()}/trace'
+    def read(self, word):
+        words = [word, *(one.decode() for one in self.words.rest)]
+        event = self.of_project('GET', lambda: NUMBER.sub(lambda _: str(self.words.number()), READS[word]))
+        event.read = words
+        return event
 
     def health(self):
         token = field_of(token_of(self.sent or ''))
@@ -222,12 +228,7 @@ EVENTS = {
     'cancel-pipeline': lambda of: of.of_project('POST', of.numbered('pipelines', '/cancel')),
     'show-job': lambda of: of.of_project('GET', of.numbered('jobs')),
     'trace': lambda of: of.of_project('GET', of.numbered('jobs', '/trace')),
-    'show-project': lambda of: of.of_project('GET'),
-    'list-pipelines': lambda of: of.of_project('GET', '/pipelines'),
-    'list-jobs': lambda of: of.of_project('GET', of.numbered('pipelines', '/jobs')),
-    'list-attempts': lambda of: of.of_project('GET', of.numbered('jobs', '/attempts')),
-    'trace-of': lambda of: of.of_project('GET', of.attempt_trace),
-    'list-groups': lambda of: of.of_project('GET', '/resource_groups'),
+    **{word: lambda of, word=word: of.read(word) for word in READS},
     'health': Reading.health,
     'play': lambda of: of.of_project('POST', of.numbered('jobs', '/play')),
     'cancel-job': lambda of: of.of_project('POST', of.numbered('jobs', '/cancel')),
@@ -239,16 +240,6 @@ EVENTS = {
     'append': Reading.append,
     'sweep': lambda of: Event(),
 }
-# What is read of a project: the event's word, and the numbers behind it.
-READS = {
-    'show-project': '{project}',
-    'list-pipelines': '{project}',
-    'list-jobs': '{project} {pipeline}',
-    'list-attempts': '{project} {job}',
-    'trace-of': '{project} {job} {attempt}',
-    'list-groups': '{project}',
-}
-
 # A request that changes nothing: of a runner that nobody knows.
 POLL = request_of('POST', '/jobs/request', body=b'{"token":"nobody"}')
 
@@ -295,11 +286,6 @@ class Reply:
             return self.told()
         shown = json.loads(self.body)
         return ' '.join([shown['status'], *(f'{job["name"]}:{job["status"]}' for job in shown['jobs'])])
-
-
-def reads(project=1, pipeline=1, job=1, attempt=1):
-    """A line for each thing that is read of a project."""
-    return [f'{word} {numbers}'.format(project=project, pipeline=pipeline, job=job, attempt=attempt) for word, numbers in READS.items()]
 
 
 def refusal_in(text):

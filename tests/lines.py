@@ -1,6 +1,9 @@
 """Scenario files: their lines, the words of a line, texts that have names, and why a scenario differs. tests/README.md has the form."""
 
 import re
+from functools import partial
+
+from reads import READS, read
 
 
 class Fault(Exception):
@@ -29,7 +32,7 @@ class Line:
         self.text = text
 
 
-# ---- lines, of which those behind `each` stand once for each number
+# ---- lines, of which those behind `each` stand once for each number, or for each thing that is read of a project
 
 def numbers_in(text):
     words = text.split()
@@ -57,12 +60,24 @@ def with_number(text, number):
     return ''.join(written)
 
 
+def with_read(text, word):
+    """A text in which `{read}` is the word of what is read, and `{read P N}` its event of project P with each other number N."""
+    return re.sub(r'\{read(?: (\d+) (\d+))?\}', lambda found: read(word, found[1], found[2]) if found[1] else word, text)
+
+
+def copies_of(text):
+    """What makes each copy of a line behind `each`."""
+    if text == 'read':
+        return [partial(with_read, word=word) for word in READS]
+    return [partial(with_number, number=number) for number in numbers_in(text)]
+
+
 def lines_of(text):
-    lines, group, numbers = [], [], None
+    lines, group, copies = [], [], None
 
     def close():
-        for number in numbers or ():
-            lines.extend(Line(line.number, with_number(line.text, number)) for line in group)
+        for copy in copies or ():
+            lines.extend(Line(line.number, copy(line.text)) for line in group)
         group.clear()
 
     for number, raw in enumerate(text.split('\n'), 1):
@@ -72,9 +87,9 @@ def lines_of(text):
         try:
             if line.text.rstrip() == 'each' or line.text.startswith('each '):
                 close()
-                numbers = numbers_in(line.text[5:]) if line.text[5:].strip() else None
+                copies = copies_of(line.text[5:].strip()) if line.text[5:].strip() else None
             else:
-                (lines if numbers is None else group).append(line)
+                (lines if copies is None else group).append(line)
         except Fault as fault:
             fault.line = fault.line or number
             raise

@@ -2,7 +2,9 @@
 import json
 from datetime import datetime, timezone
 
-from choices import NEWEST_READY_FIRST, OLDEST_FIRST
+from choices import NEWEST_READY_FIRST, OLDEST_FIRST, state
+from events import plain
+from lines import Unread, Wanted
 from rule import CANCELED, CAUSES, FAILED, LIVE, MANUAL, PENDING, RUNNING, SKIPPED
 
 MOST = 100  # pipelines of a list
@@ -116,18 +118,36 @@ class Listings:
                 for group in sorted(names, key=str.encode)]
 
 
+# What is worked out of the numbers of each event.
+FOUND = {
+    'show-project': Listings.project,
+    'list-pipelines': Listings.pipelines,
+    'list-jobs': Listings.jobs,
+    'list-attempts': Listings.attempts_in,
+    'trace-of': Listings.trace,
+    'list-groups': Listings.groups,
+}
+
+
 def told(found):
     """What was found, as a scenario tells the reply to it."""
-    return '404 M3' if found is None else f'200 {json_of(found)}'
+    if found is None:
+        return '404 M3'
+    if isinstance(found, bytes):
+        return f'200 {plain(found)}' if found else '200'
+    return f'200 {json_of(found)}'
 
 
 def wanted(whole, line):
     """How the event of a line that reads something is answered over this state."""
-    word, project, *rest = line.split(' ')
-    listings, numbers = Listings(whole), [int(number) for number in [project, *rest]]
-    if word == 'trace-of':
-        trace = listings.trace(*numbers)
-        return '404 M3' if trace is None else trace
-    ways = {'show-project': listings.project, 'list-pipelines': listings.pipelines, 'list-jobs': listings.jobs, 'list-attempts': listings.attempts_in,
-            'list-groups': listings.groups}
-    return told(ways[word](*numbers))
+    word, *numbers = line.split(' ')
+    return told(FOUND[word](Listings(whole), *map(int, numbers)))
+
+
+def worked_out(of_event, event, world):
+    """What a scenario wants of an event: where it says `listed`, that is worked out of the tables as they are before the event."""
+    if of_event is None or str(of_event) != 'listed':
+        return of_event
+    if event.read is None:
+        raise Unread('nothing that is read of a project')
+    return Wanted(wanted(state(world), ' '.join(event.read)))

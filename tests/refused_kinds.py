@@ -8,8 +8,8 @@ START = 1000
 class Event:
     """What is sent at a moment: a request of bytes, or the words of a command, and how its answer is told; or a statement that alters the file."""
 
-    def __init__(self, moment, *, request=None, command=None, tells=None, sql=None):
-        self.moment, self.request, self.command, self.tells, self.sql = moment, request, command, tells, sql
+    def __init__(self, moment, *, request=None, command=None, tells=None, sql=None, read=None):
+        self.moment, self.request, self.command, self.tells, self.sql, self.read = moment, request, command, tells, sql, read
 
 
 class Kind:
@@ -52,7 +52,7 @@ class Reader:
         event = Reading(words, self.texts).event()
         if event.command:
             return Event(self.moment, command=event.command, tells=lambda ran: told_command(event, ran))
-        return Event(self.moment, request=event.request, tells=lambda reply: told_reply(event, reply))
+        return Event(self.moment, request=event.request, tells=lambda reply: told_reply(event, reply), read=event.read)
 
     def wanted(self, text):
         if text.startswith('$') or text[4:].startswith('$'):

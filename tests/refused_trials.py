@@ -9,6 +9,7 @@ import time
 
 from events import SEED, is_accepted
 from lines import Fault
+from listings import worked_out
 from world import PAGE_BYTES, SECONDS, World, text_of
 
 HERE = os.path.dirname(os.path.abspath(__file__))
@@ -87,6 +88,7 @@ class Trials:
         self.kind, self.is_cold, self.is_rest = kind, is_cold, is_rest
         self.world, self.library = RefusedWorld(folder, library), library
         self.page = self.world.refusals
+        self.wanted = kind.wanted
         self.refused = 0
         self.ends = {}  # of each end how often it came, and the first number for which
         self.rows_of = {}  # the rows of files that were looked at
@@ -133,6 +135,7 @@ class Trials:
         elif self.is_cold or not world.server:
             world.restart()
         world.at(self.kind.event.moment)
+        self.wanted = worked_out(self.wanted, self.kind.event, world)
         self.files = world.save()
         self.before = self.rows()
 
@@ -140,8 +143,8 @@ class Trials:
         """The event as it is answered where memory is ample, and the rows that it leaves."""
         self.answer, _ = self.sent(0)
         told = self.told(self.answer)
-        if not self.kind.wanted.allows(told):
-            raise Difference(f'wanted {self.kind.wanted}, came {told}')
+        if not self.wanted.allows(told):
+            raise Difference(f'wanted {self.wanted}, came {told}')
         self.after = self.rows()
         self.agains[tuple(sorted(self.files.items()))] = self.answer, self.after
         self.over()
@@ -247,12 +250,12 @@ class Trials:
         elif end == 'M17':
             self.look_reopened()
         elif rows == self.before:
-            end = self.look_again(end, self.kind.wanted, self.answer)
+            end = self.look_again(end, self.wanted, self.answer)
             return 'unheard' if end == 'silent' and self.is_read_unheard() else end
         elif rows != self.after:
             raise Difference(f'{end}, and the rows are others')
         elif self.kind.unswept:
-            return self.look_again(end, self.kind.wanted, self.answer)
+            return self.look_again(end, self.wanted, self.answer)
         elif self.kind.repeated:
             return self.look_again(end, self.kind.repeated)
         elif end == 'silent' and self.is_long():

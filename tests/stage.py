@@ -8,6 +8,7 @@ import transactions
 from events import POLL, SEED, Reply, is_accepted, quoted, told_command, told_reply
 from exchanges import carry_out
 from lines import Differs, Fault
+from listings import worked_out
 from steps import BEGINNING, Ask, Exchange, Reopen, Repeat, Report, Rows, Statement, StopEach, steps_of
 from stops import Difference, stop_each
 
@@ -101,6 +102,7 @@ class Stage:
     def follow_alone(self, ask):
         """Has an event handled before which nothing is due: a sweep that is has a step of its own."""
         self.nothing_left()
+        self.work_out(ask)
         if ask.event.command:
             compare(ask, self.tell(ask))
             return
@@ -154,8 +156,14 @@ class Stage:
         if ran.status:
             raise Fault(f"the file doesn't open: {ran}")
 
+    def work_out(self, *asks):
+        """What is wanted of these, where it is told by the tables as they are."""
+        for ask in asks:
+            ask.wanted = worked_out(ask.wanted, ask.event, self.world)
+
     def stop_each(self, step):
         self.served()
+        self.work_out(step.ask, *(sign.ask for sign in step.signs))
         asks = []
         for sign in step.signs:
             ask = lambda sign=sign: self.tell_now(sign.ask)

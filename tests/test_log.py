@@ -5,7 +5,8 @@ import stat
 import unittest
 
 from cases import PATH, Case, alter, tell
-from events import is_accepted, reads
+from events import is_accepted
+from reads import reads
 from world import REQUESTS, until
 
 ASK = ('POST /api/v4/jobs/request HTTP/1.1\r\nContent-Length: 47\r\n\r\n{"token":"r1-' + 'ab' * 16 + '"}').encode()

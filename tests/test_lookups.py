@@ -11,21 +11,24 @@ import unittest
 from cases import FILES, tell
 from events import SEED, is_accepted
 from refused import library
+from reads import reads
 from refused_trials import RefusedWorld, wait_until
 from world import ROOM
 
 FEW, MANY = 4, 60
 REMEMBERED = 32  # so many pipelines' records are remembered
 IDLE = 'ask r1'  # a poll that finds nothing
-# Runner 1 finds nothing, 2 takes the jobs that ship, 3 those without tags, 4 the wide pipeline's. Projects 1 to 4 have these files.
-MADE = ['add-runner idle tags none tagged-only', 'add-runner ships tags near', 'add-runner busy', 'add-runner wide tags wide',
-        'add-project finished', 'add-project pending', 'add-project ships', 'add-project wide',
-        'set-file 1 one', 'set-file 2 far', 'set-file 3 ship', 'set-file 4 wide', 'set-mode 3 prod oldest_first']
+# Runner 1 finds nothing, 2 takes the jobs that ship, 3 those without tags, 4 the wide pipeline's, 5 those of the project that is read. Projects 1 to 5 have
+# these files.
+MADE = ['add-runner idle tags none tagged-only', 'add-runner ships tags near', 'add-runner busy', 'add-runner wide tags wide', 'add-runner reads tags read',
+        'add-project finished', 'add-project pending', 'add-project ships', 'add-project wide', 'add-project read',
+        'set-file 1 one', 'set-file 2 far', 'set-file 3 ship', 'set-file 4 wide', 'set-file 5 read', 'set-mode 3 prod oldest_first',
+        'set-variable 5 KEY value', 'set-mode 5 read oldest_first']
 
 
 def files(count):
     wide = ''.join(f'j{number}:\n  tags: [wide]\n  script: make\n' for number in range(count))
-    return dict(FILES, far='build:\n  tags: [far]\n  script: make\n', ship='ship:\n  resource_group: prod\n  tags: [near]\n  script: make\n',
+    return dict(FILES, read='read:\n  resource_group: read\n  tags: [read]\n  script: make\n', far='build:\n  tags: [far]\n  script: make\n', ship='ship:\n  resource_group: prod\n  tags: [near]\n  script: make\n',
                 wide=f'{wide}last:\n  stage: deploy\n  tags: [far]\n  script: make\n')
 
 
@@ -66,9 +69,12 @@ class Counted(RefusedWorld):
 
     def fill(self):
         """So many finished pipelines, live leases of runner 3, pending jobs that no runner fits, in pipelines that aren't finished, jobs that wait for
-        the group that one holds, and jobs of the wide pipeline. What is looked up once after an opening is looked up."""
+        the group that one holds, and jobs of the wide pipeline. What is looked up once after an opening is looked up. The project that is read has a little of
+        each kind of record, the first pipeline, job and attempt of all and the last."""
         for line in MADE:
             self.do(line)
+        self.do('create 5 first')
+        self.do(f'success j{self.granted(5)}')
         for number in range(self.count):
             self.do(f'create 1 finished{number}')
             self.do(f'success j{self.granted(3)}')
@@ -77,6 +83,8 @@ class Counted(RefusedWorld):
             self.granted(3)
             self.do(f'create 2 pending{number}')
             self.do(f'create 3 ship{number}')
+        self.do('create 5 last')
+        self.granted(5)
         self.do('create 4 wide')
         self.restart()
         self.do(f'success j{self.granted(4)}')
@@ -97,9 +105,8 @@ class Counted(RefusedWorld):
         busy = wide + 1
         for line in (f'running j{busy}', f'append j{busy} 0 abc', f'success j{busy}', 'set-variable 1 A b', 'set-mode 2 dev oldest_first',
                      'show-mode 2 dev', 'ask r4', f'success j{wide}', 'ask r4', f'success j{ships}', 'ask r2', 'create 3 more',
-                     f'cancel-pipeline 2 {self.count + 2}', 'create 1 newer', 'ask r3', 'retry 1 1', 'ask r3', 'show-job 1 2',
-                     'show-pipeline 1 2', 'show-project 1', 'list-jobs 1 2', 'list-attempts 1 2', 'trace-of 1 2 2', 'list-groups 3',
-                     f'at 1010 {IDLE}', f'at 1119 {IDLE}'):
+                     f'cancel-pipeline 2 {self.count + 3}', 'create 1 newer', 'ask r3', 'retry 1 2', 'ask r3', 'show-job 1 3',
+                     'show-pipeline 1 3', *reads(5), f'at 1010 {IDLE}', f'at 1119 {IDLE}'):
             see(line)
         return found
 

@@ -12,6 +12,7 @@ from contextlib import closing
 from cases import Case, alter, drawn, tell
 from choices import state
 from listings import wanted as listed
+from reads import reads
 from transactions import copied
 from world import HERE
 
@@ -321,7 +322,7 @@ class Shell(Files):
                    '{"id":6,"name":"after","stage":"deploy","status":"created"}],"ref":"next","source":"api","status":"pending"}')
         self.world.at(2000)
         self.assertEqual(tell(self.world, 'show-pipeline 1 1' + token), ended)
-        for line in ('show-project 1', 'list-pipelines 1', 'list-jobs 1 1', 'list-attempts 1 1', 'list-attempts 1 2', 'list-groups 1'):
+        for line in [*reads(), *reads(job=2, attempt=3)]:
             self.assertEqual(tell(self.world, line + token), listed(state(self.world), line), line)
         for line, wanted in [('trace 1 1', '200'), ('trace 1 3', '200'),
                              ('retry 1 2', '200 {"id":2,"name":"ship","stage":"test","status":"pending"}'),

@@ -11,9 +11,10 @@ import random
 
 from cases import Case, tell
 from choices import state
-from events import DAY, MODES, READS, quoted, reads
+from events import DAY, MODES
 from lines import Fault
 from listings import wanted as listed
+from reads import READS, reads
 from transactions import Log, swept
 
 EVENTS = 600
@@ -136,8 +137,8 @@ class Course:
         project, pipeline = 1 + self.below(2), max(1, self.pipelines - self.below(5))
         attempt = max(1, self.counts['attempts'] - self.below(8))
         job = self.granted.get(attempt, 1)
-        return self.random.choice([*reads(project, pipeline, job, attempt), f'list-attempts 1 {self.job()}', f'trace-of 1 {job} {attempt}', f'trace-of 1 {job} {attempt}',
-                                   f'trace-of 1 {self.job()} {attempt}'])
+        return self.random.choice([*reads(project, pipeline=pipeline, job=job, attempt=attempt), f'list-attempts 1 {self.job()}',
+                                   f'trace-of 1 {job} {attempt}', f'trace-of 1 {job} {attempt}', f'trace-of 1 {self.job()} {attempt}'])
 
     def request(self):
         if self.below(6) == 0:
@@ -255,9 +256,7 @@ class RandomEvents(Case):
 
     def foretold_read(self, line, state, answer):
         wanted = listed(state, line)
-        if isinstance(wanted, bytes):
-            self.course.count('traces', bool(wanted))
-            wanted = f'200 {quoted(wanted)}' if wanted else '200'
+        self.course.count('traces', line.startswith('trace-of') and wanted.startswith('200 '))
         self.course.count('not there' if wanted == '404 M3' else 'read')
         self.assertEqual(answer, wanted)
 

@@ -4,8 +4,9 @@ import unittest
 
 from cases import Case, tell
 from choices import state
-from events import is_accepted, reads
+from events import is_accepted
 from listings import MOST, moment, wanted
+from reads import reads
 
 CLOSED = '503 M17'
 
