@@ -29,7 +29,7 @@ class Event:
         self.is_sweep = request is None and command is None
         # The moment of a prune, whose command goes on until none is left.
         self.before = None
-        # What is read of a project, and by which numbers: its words, without those of the token.
+        # Of what is read of a project: its line, without the token.
         self.read = None
 
 
@@ -100,9 +100,9 @@ class Reading:
         return lambda: f'/{kind}/{key_in_path(self.words.word())}'
 
     def read(self, word):
-        words = [word, *(one.decode() for one in self.words.rest)]
+        line = b' '.join([word.encode(), *self.words.rest])
         event = self.of_project('GET', lambda: NUMBER.sub(lambda _: str(self.words.number()), READS[word]))
-        event.read = words
+        event.read = line.decode(errors='replace')
         return event
 
     def health(self):

@@ -144,10 +144,10 @@ def wanted(whole, line):
     return told(FOUND[word](Listings(whole), *map(int, numbers)))
 
 
-def worked_out(of_event, event, world):
-    """What a scenario wants of an event: where it says `listed`, that is worked out of the tables as they are before the event."""
-    if of_event is None or str(of_event) != 'listed':
-        return of_event
+def worked_out(said, event, world):
+    """What is wanted of an event. Where a scenario says `listed`, it is worked out of the tables that are there before the event."""
+    if said is None or str(said) != 'listed':
+        return said
     if event.read is None:
         raise Unread('nothing that is read of a project')
-    return Wanted(wanted(state(world), ' '.join(event.read)))
+    return Wanted(wanted(state(world), event.read))

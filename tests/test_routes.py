@@ -16,6 +16,7 @@ ROUTES = re.findall(r'^\| ([A-Z]+) `(/[^`]+)` \|', PAGE, re.M)
 WITH_BODY, OTHERS = ['PATCH', 'POST', 'PUT'], ['DELETE', 'GET', 'HEAD', 'OPTIONS', 'QUERY']
 LACKS = ('HTTP/1.1 405 Method Not Allowed\r\nAllow: {}\r\nContent-Type: application/json\r\nContent-Length: 13\r\nConnection: close\r\n\r\n'
          '{{"code":"H6"}}')
+# What is asked by GET and isn't among what is read of a project.
 SHOWS = ['show-mode 1 A', 'show-pipeline 1 1', 'show-job 1 1', 'trace 1 1', 'health']
 
 
@@ -58,7 +59,7 @@ class Routes(Case):
                 answer = self.reply(method, path)
                 self.assertEqual((answer.split()[1], answer[-13:]), ('404', '{"code":"H5"}'), f'{method} {path}')
 
-    def test_each_path_that_is_read_is_an_events(self):
+    def test_each_path_with_get_is_of_an_event(self):
         events = [path_of(line) for line in [*reads(), *SHOWS]]
         self.assertEqual(sorted(events), sorted(path for path, methods in PATHS.items() if 'GET' in methods))
 
