@@ -1,7 +1,8 @@
 use Rattle.std.proofs.Common.{◌≡◌, refl, subst, get_or, Some}
+use Rattle.std.proofs.lemmas.List.{set-get_or}
 use Rattle.std.proofs.lemmas.Option.{slice_get-get_or}
 use Rattle.ci_http_peers.specs.Turns.{CallsAt}
-use Rattle.ci_http_peers.proofs.Turns.{here_set, same_item, no_item, none_past}
+use Rattle.ci_http_peers.proofs.Turns.{here_set, same_item, no_item, none_past, not_gone, other_same}
 use Rattle.ci_http_peers.proofs.hall.call_at.Goals as goal
 
 pub returns-in-Some-clause-calls : goal.returns-in-Some-clause-calls
@@ -25,3 +26,15 @@ returns-in-Some-clause-whole g c = λ is.
     let none = c.index-chairs-place.result in
     let at = slice_get-get_or chairs c.args.place none c.if-place-chairs.true in
     (reads, c.call_one.new.chair, here_set chairs c.args.place (Some c.call_one.new.chair) (get_or chairs c.args.place none) at, all)
+
+pub returns-in-Some-clause-others : goal.returns-in-Some-clause-others
+returns-in-Some-clause-others g c = λ k other. other_same c.args.chairs.now c.args.place k _ other
+
+pub returns-in-Some-clause-none : goal.returns-in-Some-clause-none
+returns-in-Some-clause-none g c = λ gone. absurd (not_gone c.args.chairs.now c.args.place c.index-chairs-place.result _ c.if-place-chairs.true c.in-Some.is gone)
+
+pub returns-in_default-clause-others : goal.returns-in_default-clause-others
+returns-in_default-clause-others g c = λ k other. other_same c.args.chairs.now c.args.place k _ other
+
+pub returns-in_default-clause-none : goal.returns-in_default-clause-none
+returns-in_default-clause-none g c = λ gone. (refl, set-get_or c.args.chairs.now c.args.place c.index-chairs-place.result)
