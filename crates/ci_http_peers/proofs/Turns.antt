@@ -124,10 +124,14 @@ stays_after seats chairs mid mids new news k seat chair (inr (inl none, gone, sh
 stays_after seats chairs mid mids new news k seat chair (inr (inr is, gone, shut)) = inr (inr (ap (is_at Writing) (sym seat) ∙ is), gone, shut)
 
 -- requests that are answered, and more of them
-pub more_answers : {T : Type 0} (answers : List ℕ → T → T → Option (List ℕ) → Type 0) (xs ys : List (List ℕ)) (a b c : T)
+answers_append : {T : Type 0} (answers : List ℕ → T → T → Option (List ℕ) → Type 0) (xs ys : List (List ℕ)) (a b c : T)
     → Answers answers xs a b → Answers answers ys b c → Answers answers (xs ++ ys) a c
-more_answers answers [] ys a b c first second = subst (λ t. Answers answers ys t c) first second
-more_answers answers (x ∷ xs) ys a b c (mid, one, first) second = (mid, one, more_answers answers xs ys mid b c first second)
+answers_append answers [] ys a b c first second = subst (λ t. Answers answers ys t c) first second
+answers_append answers (x ∷ xs) ys a b c (mid, one, first) second = (mid, one, answers_append answers xs ys mid b c first second)
+
+pub more_answers : {T : Type 0} (answers : List ℕ → T → T → Option (List ℕ) → Type 0) (a b c : T)
+    → ((xs : List (List ℕ)) × Answers answers xs a b) → ((ys : List (List ℕ)) × Answers answers ys b c) → (zs : List (List ℕ)) × Answers answers zs a c
+more_answers answers a b c (xs, first) (ys, second) = (xs ++ ys, answers_append answers xs ys a b c first second)
 
 -- the connections of one place more are cleared
 pub cleared_more : {C : Type 0} (seats : List (Option Peer)) (chairs : List (Option C)) (i : ℕ) (seat : Option Peer) → slice_get seats i ≡ Some seat

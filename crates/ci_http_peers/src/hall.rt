@@ -40,14 +40,10 @@ impl<W: Wire + Drop> Hall<W> {
         ensures chairs { IfOk result (λ hall. hall.chairs.items ≡ replicate MAX_PEERS None) }
         ensures patience { IfOk result (λ hall. hall.patience ≡ patience) }
     {
-        let mut chairs = Vec::with_capacity(alloc, MAX_PEERS)?;
-        for _ in 0..MAX_PEERS {
-            chairs.push(None)?;
-        }
         Ok(Hall {
             alloc,
             peers: places(alloc)?,
-            chairs,
+            chairs: places(alloc)?,
             scratch: Vec::from_elem(alloc, 0, READ_BYTES)?,
             patience,
         })

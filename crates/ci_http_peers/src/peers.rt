@@ -12,8 +12,8 @@ pub const MAX_PEERS: usize = 256;
 /// The most bytes of replies that lie in memory in all, for peers that take them slowly.
 pub(crate) const MAX_REPLY_BYTES: usize = 33_554_432;
 
-/// An empty table.
-pub(crate) fn places(alloc: Global) -> Result<Vec<Option<Peer>>, AllocError>
+/// A table that has nothing at any place. Errors: memory was refused.
+pub(crate) fn places<A: Drop>(alloc: Global) -> Result<Vec<Option<A>>, AllocError>
     ensures { IfOk result (λ seats. seats.items ≡ replicate MAX_PEERS None) }
 {
     let mut seats = Vec::with_capacity(alloc, MAX_PEERS)?;
