@@ -50,6 +50,13 @@ none_past xs place v past at =
     let within : place < length xs = slice_get_within xs place v at in
     absurd (omega (arith, past, within))
 
+-- of a place that has something at it
+pub not_gone : {A : Type 0} (xs : List (Option A)) (place : ℕ) (v : Option A) (a : A) → place < length xs → get_or xs place v ≡ Some a → IsGone (slice_get xs place) → ⊥
+not_gone xs place v a less is gone = subst IsGone (slice_get-get_or xs place v less ∙ ap Some is) gone
+
+pub same_there : {A : Type 0} (seat : Option (Option A)) (a b : A) → seat ≡ Some (Some a) → seat ≡ Some (Some b) → a ≡ b
+same_there seat a b one other = let both : Some (Some a) ≡ Some (Some b) = sym one ∙ other in cc
+
 -- who was found at a place sits there
 pub found_at : {A : Type 0} (xs ys : List (Option A)) (place : ℕ) (v : Option A) (a : A) → ys ≡ xs → place < length ys → v ≡ get_or ys place v → v ≡ Some a
     → slice_get xs place ≡ Some (Some a)
@@ -59,6 +66,16 @@ found_at xs ys place v a same less read is =
 -- a list after a slice of it was written
 pub written_back : {A : Type 0} (new old : List A) (n : ℕ) → length new ≡ n → take n (new ++ drop (length new) old) ≡ new
 written_back new old n e = ap (λ m. take m (new ++ drop (length new) old)) (sym e) ∙ take-append_seam new (drop (length new) old)
+
+-- a list after a slice of it was written: as the slice was, but for one place; or as one place of it was set
+pub back_same_but : {A : Type 0} (old shown new : List A) (n place : ℕ) → length new ≡ length shown → length shown ≡ n → shown ≡ old → SameBut place shown new
+    → SameBut place old (take n (new ++ drop (length new) old))
+back_same_but old shown new n place kept len same others k other =
+    ap (λ l. slice_get l k) (written_back new old n (kept ∙ len)) ∙ others k other ∙ ap (λ l. slice_get l k) same
+
+pub back_set : {A : Type 0} (old shown new : List A) (n place : ℕ) (v : A) → length new ≡ length shown → length shown ≡ n → shown ≡ old → new ≡ set shown place v
+    → take n (new ++ drop (length new) old) ≡ set old place v
+back_set old shown new n place v kept len same is = written_back new old n (kept ∙ len) ∙ is ∙ ap (λ l. set l place v) same
 
 -- nothing is at a place from which it was taken
 pub gone_here : {A : Type 0} (xs : List (Option A)) (place : ℕ) → IsGone (slice_get (set xs place None) place)
@@ -107,10 +124,14 @@ stays_after seats chairs mid mids new news k seat chair (inr (inl none, gone, sh
 stays_after seats chairs mid mids new news k seat chair (inr (inr is, gone, shut)) = inr (inr (ap (is_at Writing) (sym seat) ∙ is), gone, shut)
 
 -- requests that are answered, and more of them
-pub more_answers : {T : Type 0} (answers : List ℕ → T → T → Option (List ℕ) → Type 0) (xs ys : List (List ℕ)) (a b c : T)
+answers_append : {T : Type 0} (answers : List ℕ → T → T → Option (List ℕ) → Type 0) (xs ys : List (List ℕ)) (a b c : T)
     → Answers answers xs a b → Answers answers ys b c → Answers answers (xs ++ ys) a c
-more_answers answers [] ys a b c first second = subst (λ t. Answers answers ys t c) first second
-more_answers answers (x ∷ xs) ys a b c (mid, one, first) second = (mid, one, more_answers answers xs ys mid b c first second)
+answers_append answers [] ys a b c first second = subst (λ t. Answers answers ys t c) first second
+answers_append answers (x ∷ xs) ys a b c (mid, one, first) second = (mid, one, answers_append answers xs ys mid b c first second)
+
+pub more_answers : {T : Type 0} (answers : List ℕ → T → T → Option (List ℕ) → Type 0) (a b c : T)
+    → ((xs : List (List ℕ)) × Answers answers xs a b) → ((ys : List (List ℕ)) × Answers answers ys b c) → (zs : List (List ℕ)) × Answers answers zs a c
+more_answers answers a b c (xs, first) (ys, second) = (xs ++ ys, answers_append answers xs ys a b c first second)
 
 -- the connections of one place more are cleared
 pub cleared_more : {C : Type 0} (seats : List (Option Peer)) (chairs : List (Option C)) (i : ℕ) (seat : Option Peer) → slice_get seats i ≡ Some seat

@@ -12,8 +12,8 @@ pub const MAX_PEERS: usize = 256;
 /// The most bytes of replies that lie in memory in all, for peers that take them slowly.
 pub(crate) const MAX_REPLY_BYTES: usize = 33_554_432;
 
-/// An empty table.
-pub(crate) fn places(alloc: Global) -> Result<Vec<Option<Peer>>, AllocError>
+/// A table that has nothing at any place. Errors: memory was refused.
+pub(crate) fn places<A: Drop>(alloc: Global) -> Result<Vec<Option<A>>, AllocError>
     ensures { IfOk result (λ seats. seats.items ≡ replicate MAX_PEERS None) }
 {
     let mut seats = Vec::with_capacity(alloc, MAX_PEERS)?;
@@ -23,12 +23,12 @@ pub(crate) fn places(alloc: Global) -> Result<Vec<Option<Peer>>, AllocError>
     Ok(seats)
 }
 
-/// Has a peer sit at a place, or nobody. A place that isn't there stays so.
-pub(crate) fn put(seats: &mut [Option<Peer>], place: usize, peer: Option<Peer>)
-    ensures { seats.new ≡ slice_set seats.old place peer }
+/// A place has a peer or a connection from now on, or none. A place that isn't there stays so.
+pub(crate) fn put<A: Drop>(table: &mut [Option<A>], place: usize, item: Option<A>)
+    ensures { table.new ≡ slice_set table.old place item }
 {
-    if place < seats.len() {
-        seats[place] = peer;
+    if place < table.len() {
+        table[place] = item;
     }
 }
 

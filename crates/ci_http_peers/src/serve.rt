@@ -9,7 +9,7 @@ use crate::answerer::Answerer;
 use crate::door::Door;
 use crate::hall::Hall;
 use crate::socket::Socket;
-use mio::net::{TcpListener, TcpStream};
+use mio::net::TcpListener;
 use mio::{Events, Interest, Poll, Registry, Token};
 use std::alloc::Global;
 use std::io;
@@ -97,26 +97,48 @@ pub fn serve_peers<N: Net, C: Clock, T, E, A: Answerer<T, E>>(
     let Ok(start) = Instant::now(clock) else {
         return Err(Unserved::NoClock);
     };
-    let Ok(poll) = Poll::new(net) else {
-        return Err(Unserved::NoWait);
-    };
-    let registry = match register(&poll, listener) {
-        Ok(registry) => registry,
-        Err(_) => return Err(Unserved::NoWait),
-    };
-    let (Ok(events), Ok(hall)) = (
-        Events::with_capacity(alloc, MAX_EVENTS),
-        Hall::new(alloc, terms.patience),
-    ) else {
+    let Ok(mut poll) = Poll::new(net) else {
         return Err(Unserved::NoWait);
     };
     let ticks = Ticks { clock, start };
-    let entry = Entry {
+    serve_by(&mut poll, alloc, &ticks, listener, terms, answerer, subject)
+}
+
+/// Serves the connections of a listener by what waits for them.
+fn serve_by<C: Clock, T, E, A: Answerer<T, E>>(
+    poll: &mut Poll,
+    alloc: Global,
+    ticks: &Ticks<'_, C>,
+    listener: &mut TcpListener,
+    terms: Terms,
+    answerer: &A,
+    subject: &mut T,
+) -> Result<(), Unserved<E>>
+    ensures { (requests : List (List ℕ)) × Answers (A.answers answerer.now) requests subject.old subject.new }
+{
+    let Ok(registry) = register(poll, listener) else {
+        return Err(Unserved::NoWait);
+    };
+    let Ok(mut events) = Events::with_capacity(alloc, MAX_EVENTS) else {
+        return Err(Unserved::NoWait);
+    };
+    let Ok(mut hall) = Hall::new(alloc, terms.patience) else {
+        return Err(Unserved::NoWait);
+    };
+    let mut entry = Entry {
         listener,
         registry: &registry,
         door: Door::new(terms.connections),
     };
-    run(poll, events, hall, &ticks, entry, answerer, subject)
+    run(
+        poll,
+        &mut events,
+        &mut hall,
+        ticks,
+        &mut entry,
+        answerer,
+        subject,
+    )
 }
 
 /// Registers a listener, and gives what sockets register themselves with.
@@ -128,11 +150,11 @@ fn register(poll: &Poll, listener: &mut TcpListener) -> io::Result<Registry> {
 
 /// Turns until all connections are over.
 fn run<'a, C: Clock, T, E, A: Answerer<T, E>>(
-    mut poll: Poll,
-    mut events: Events,
-    mut hall: Hall<Socket<'a>>,
+    poll: &mut Poll,
+    events: &mut Events,
+    hall: &mut Hall<Socket<'a>>,
     ticks: &Ticks<'_, C>,
-    mut entry: Entry<'a>,
+    entry: &mut Entry<'a>,
     answerer: &A,
     subject: &mut T,
 ) -> Result<(), Unserved<E>>
@@ -144,22 +166,16 @@ fn run<'a, C: Clock, T, E, A: Answerer<T, E>>(
             break;
         }
         let timeout = time_to_wait(nearest, entry.door.opens_at(), ticks.now()?);
-        if poll.poll(&mut events, timeout).is_err() {
+        if poll.poll(events, timeout).is_err() {
             return Err(Unserved::NoWait);
         }
-        hear(
-            &events,
-            &mut hall,
-            ticks,
-            &mut entry.door,
-            answerer,
-            subject,
-        )?;
-        accept_some(&mut hall, ticks, &mut entry, answerer, subject)?;
+        hear(events, hall, ticks, &mut entry.door, answerer, subject)?;
+        accept_some(hall, ticks, entry, answerer, subject)?;
         entry.door.close_if(answerer.is_over(subject));
         let now = ticks.now()?;
-        if nearest.is_some_and(|nearest| nearest <= now) {
-            hall.end_late(now);
+        match nearest {
+            Some(nearest) if nearest <= now => hall.end_late(now),
+            _ => {}
         }
     }
     Ok(())
@@ -171,12 +187,19 @@ fn time_to_wait(nearest: Option<u64>, opens: Option<u64>, now: u64) -> Option<Du
     ensures time { (until : ℕ) → sooner nearest opens ≡ Some until
         → (wait : DurationOf) × (result ≡ Some wait) × (as_nanos wait ≡ (until - now) * 1000000) }
 {
-    let until = match (nearest, opens) {
+    let until = sooner(nearest, opens)?;
+    Some(Duration::from_millis(until.saturating_sub(now)))
+}
+
+/// The sooner of two moments, of which each may be missing.
+fn sooner(nearest: Option<u64>, opens: Option<u64>) -> Option<u64>
+    ensures { result ≡ sooner nearest opens }
+{
+    match (nearest, opens) {
         (Some(nearest), Some(opens)) => Some(nearest.min(opens)),
         (Some(nearest), None) => Some(nearest),
         (None, opens) => opens,
-    };
-    until.map(|until| Duration::from_millis(until.saturating_sub(now)))
+    }
 }
 
 /// Goes on with the peers whose connections are ready.
@@ -192,13 +215,11 @@ fn hear<'a, C: Clock, T, E, A: Answerer<T, E>>(
 {
     for event in events {
         let now = ticks.now()?;
-        let Token(place) = event.token();
-        if event.token() != LISTENER {
-            if let Err(why) = hall.go_on(place, answerer, subject, now) {
-                return Err(Unserved::Unanswered(why));
-            }
-        } else {
+        let token = event.token();
+        if token == LISTENER {
             door.knock(now);
+        } else if let Err(why) = hall.go_on(token.0, answerer, subject, now) {
+            return Err(Unserved::Unanswered(why));
         }
     }
     Ok(())
@@ -217,10 +238,9 @@ fn accept_some<'a, C: Clock, T, E, A: Answerer<T, E>>(
 {
     for _ in 0..MAX_ACCEPTED {
         let now = ticks.now()?;
-        let Some(stream) = entry.next(now) else {
+        let Some(socket) = entry.next(now) else {
             break;
         };
-        let socket = Socket::new(stream, entry.registry);
         if let Err(why) = hall.admit(socket, answerer, subject, now) {
             return Err(Unserved::Unanswered(why));
         }
@@ -230,14 +250,14 @@ fn accept_some<'a, C: Clock, T, E, A: Answerer<T, E>>(
 
 impl<'a> Entry<'a> {
     /// The next connection, if one waits and is to be accepted. Where that fails the door says what follows.
-    fn next(&mut self, now: u64) -> Option<TcpStream> {
+    fn next(&mut self, now: u64) -> Option<Socket<'a>> {
         if !self.door.is_open(now) {
             return None;
         }
         match self.listener.accept() {
             Ok((stream, _)) => {
                 self.door.count();
-                Some(stream)
+                Some(Socket::new(stream, self.registry))
             }
             Err(e) => {
                 self.door.fail(e.kind(), now);

@@ -2,4 +2,4 @@ use Rattle.std.proofs.Common.{◌≡◌, replicate, None}
 use Rattle.ci_http_peers.proofs.peers.places.Given as goal
 
 abbrev pub invariant-loop : goal.invariant-loop
-invariant-loop l = l.seats.items ≡ replicate l.counter None
+invariant-loop g l = l.seats.items ≡ replicate l.counter None

@@ -1,4 +1,4 @@
-use Rattle.std.proofs.Common.{◌≡◌, ◌∙◌, ◌++◌, ap, sym, subst, Some, slice_get}
+use Rattle.std.proofs.Common.{◌≡◌, ◌∙◌, ap, sym, subst, Some, slice_get}
 use Rattle.ci_http_peers.specs.Peers.{IsNext}
 use Rattle.ci_http_peers.specs.Turns.{Seats}
 use Rattle.ci_http_peers.proofs.Turns.{as_answers, more_answers, on_ok, same_but_set, seated_goes_on, stays_after}
@@ -28,6 +28,6 @@ returns-clause-seats g c =
 pub returns-clause-answered : goal.returns-clause-answered
 returns-clause-answered g c =
     let answers = g.A.Answerer.answers c.args.answerer.now in
-    let (xs, before) = c.go_on_first.ensures.answered in
-    let (ys, after) = as_answers g.row.W.Denot answers (slice_get c.seat.new.self.peers.items c.in-Some.place) c.go_on_first.new.subject c.go_on.new.subject c.go_on.ensures.answered in
-    (xs ++ ys, more_answers answers xs ys c.args.subject.now c.go_on_first.new.subject c.go_on.new.subject before after)
+    let mid = c.go_on_first.new.subject in
+    more_answers answers c.args.subject.now mid c.go_on.new.subject c.go_on_first.ensures.answered
+    (as_answers g.row.W.Denot answers (slice_get c.seat.new.self.peers.items c.in-Some.place) mid c.go_on.new.subject c.go_on.ensures.answered)
