@@ -3,4 +3,5 @@ pub mod Within
 pub mod Planned
 pub mod Rising
 pub mod Searching
+pub mod Deciding
 pub mod FirstLayers

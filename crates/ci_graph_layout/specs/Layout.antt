@@ -3,7 +3,7 @@ use Rattle.std.specs.Prelude.{ℕ, suc, ◌+◌, Bool, List, [], ◌∷◌, ◌+
 use Rattle.std.specs.Str.{bytes_eq}
 use Rattle.ci_config.specs.Config.{Text}
 use Rattle.ci_config.specs.Prelude.{Need, Job, Config}
-use Rattle.ci_graph_layout.specs.Inclusion.{Given, IncludedJob, included}
+use Rattle.ci_graph_layout.specs.Inclusion.{Given, Decided, IncludedJob, by_rules, included}
 
 -- ---- the order
 
@@ -27,6 +27,15 @@ by_stage g c (stage ∷ stages) = all_included g c (filter (is_of stage) c.jobs)
 
 abbrev pub lineup : Given → Config → List IncludedJob
 lineup g c = by_stage g c c.stages
+
+-- the same, of jobs of which is known what decides
+abbrev pub all_ruled : List Decided → List IncludedJob
+all_ruled [] = []
+all_ruled (d ∷ ds) = put (by_rules d.job d.decision) (all_ruled ds)
+
+abbrev pub ruled_by_stage : List Decided → List Text → List IncludedJob
+ruled_by_stage ds [] = []
+ruled_by_stage ds (stage ∷ stages) = all_ruled (filter (λ d. is_of stage d.job) ds) ++ ruled_by_stage ds stages
 
 -- ---- who waits for whom
 

@@ -2,17 +2,17 @@
 pub use Rattle.ci_graph_layout.specs.Examples.{file}
 pub use Rattle.ci_graph_layout.specs.Fault.{Plan, Plans, any, cyclic, faulty, first_fault, is_later, is_missing, is_unmet, is_work, lacks_need, names_later, needs_many, needs_of}
 pub use Rattle.ci_graph_layout.specs.Fault.{planned, waits_for_later}
-pub use Rattle.ci_graph_layout.specs.Inclusion.{ByRule, Given, IncludedJob, NoRules, NoneMatches, by_rules, deciding, holds, included, layered, names}
+pub use Rattle.ci_graph_layout.specs.Inclusion.{ByRule, Decided, Decision, Given, IncludedJob, NoRules, NoneMatches, by_rules, decided, decided_job, decision, deciding, holds, included, layered, names}
 pub use Rattle.ci_graph_layout.specs.Inclusion.{own_names, ruled, seen, without_rules}
 pub use Rattle.ci_graph_layout.specs.Layering.{layers_of}
-pub use Rattle.ci_graph_layout.specs.Layout.{all_included, below, by_needs, by_stage, is_of, lineup, needed, pairs, pairs_from, place_from, place_of, predecessors, put, rank}
-pub use Rattle.ci_graph_layout.specs.Layout.{ranks}
+pub use Rattle.ci_graph_layout.specs.Layout.{all_included, all_ruled, below, by_needs, by_stage, is_of, lineup, needed, pairs, pairs_from, place_from, place_of, predecessors, put, rank}
+pub use Rattle.ci_graph_layout.specs.Layout.{ranks, ruled_by_stage}
 pub use Rattle.ci_graph_layout.specs.Parts.{CanBeGraph, job_part, parts}
-pub use Rattle.ci_graph_layout.specs.Places.{jobs_of, never_falls_from, stages_of}
-pub use Rattle.ci_graph_layout.specs.Plans.{plan_view}
+pub use Rattle.ci_graph_layout.specs.Places.{IsLineup, IsPlaced, jobs_of, never_falls_from, stages_of}
+pub use Rattle.ci_graph_layout.specs.Plans.{Orders, plan_view}
 pub use Rattle.ci_graph_layout.specs.Searches.{all_looks, condition_looks, job_looks, rule_looks, rules_looks}
 pub use Rattle.ci_graph_layout.specs.Unmade.{unmade}
-pub use Rattle.ci_graph_layout.specs.View.{given_view, included_view, lineup_view}
+pub use Rattle.ci_graph_layout.specs.View.{decided_view, decision_view, given_view, included_view, lineup_view}
 pub use Rattle.ci_graph_layout.specs.declared.fault.GraphCode.{GraphCode}
 pub use Rattle.ci_graph_layout.specs.declared.fault.GraphCode.TheVariants.{G3}
 pub use Rattle.ci_config.specs.Config.{Config, Job, Need, Text}

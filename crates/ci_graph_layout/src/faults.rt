@@ -1,17 +1,17 @@
 //! Why jobs give no pipeline.
 
-ghost use Rattle.std.specs.Prelude.{◌≡◌, map};
-ghost use Rattle.ci_config.specs.Prelude.{need_view};
-ghost use Rattle.ci_graph_layout.specs.Fault.{any, is_work, needs_many, is_unmet, lacks_need, is_later, names_later, waits_for_later, first_fault};
-ghost use Rattle.ci_graph_layout.specs.Layout.{rank, ranks};
+ghost use Rattle.std.specs.Prelude.{◌≡◌, map, unwrap_or, []};
+ghost use Rattle.ci_config.specs.Prelude.{job_view, need_view};
+ghost use Rattle.ci_graph_layout.specs.Fault.{any, is_work, needs_of, needs_many, is_unmet, lacks_need, is_later, names_later, waits_for_later, first_fault};
+ghost use Rattle.ci_graph_layout.specs.Layout.{ranks};
 ghost use Rattle.ci_graph_layout.specs.Places.{IsPlaced, stages_of, jobs_of};
 ghost use Rattle.ci_graph_layout.specs.View.{included_view};
 
 use crate::fault::GraphCode;
 use crate::inclusion::IncludedJob;
 use crate::limits::MAX_NEEDS;
-use crate::places::{Lineup, rank};
-use ci_config::Need;
+use crate::places::Lineup;
+use ci_config::{JobSpec, Need};
 
 /// Is the job in neither `.pre` nor `.post`?
 fn is_work(job: &IncludedJob) -> bool
@@ -20,13 +20,29 @@ fn is_work(job: &IncludedJob) -> bool
     job.job.stage != ".pre" && job.job.stage != ".post"
 }
 
-/// Does the job give too many needs, repeats counted?
-fn needs_many(job: &IncludedJob) -> bool
-    ensures { result ≡ needs_many (included_view job.now) }
+/// The needs that a job gives.
+fn needs_of<'a, 't>(job: &'a JobSpec<'t>) -> &'a [Need<'t>]
+    ensures { map need_view result.now ≡ unwrap_or (job_view job.now).needs [] }
 {
-    match &job.job.needs {
-        Some(needs) => MAX_NEEDS < needs.len(),
-        None => false,
+    match &job.needs {
+        Some(needs) => needs.as_slice(),
+        None => &[],
+    }
+}
+
+impl<'a, 't> IncludedJob<'a, 't> {
+    /// The needs that it gives.
+    pub fn needs(&self) -> &'a [Need<'t>]
+        ensures { map need_view result.now ≡ needs_of (included_view self.now) }
+    {
+        needs_of(self.job)
+    }
+
+    /// Does it give too many needs, repeats counted?
+    pub fn needs_many(&self) -> bool
+        ensures { result ≡ needs_many (included_view self.now) }
+    {
+        MAX_NEEDS < self.needs().len()
     }
 }
 
@@ -48,11 +64,19 @@ impl<'a, 't> Lineup<'a, 't> {
         ensures { result ≡ any needs_many (jobs_of self.now) }
     {
         for job in &self.jobs {
-            if needs_many(job) {
+            if job.needs_many() {
                 return true;
             }
         }
         false
+    }
+
+    /// Is the need not optional, and names no included job?
+    pub fn is_unmet(&self, need: &Need) -> bool
+        requires { IsPlaced self.now }
+        ensures { result ≡ is_unmet (jobs_of self.now) (need_view need.now) }
+    {
+        !need.optional && self.place_of(need.job).is_none()
     }
 
     /// Does one of these needs name no included job, and isn't optional?
@@ -61,7 +85,7 @@ impl<'a, 't> Lineup<'a, 't> {
         ensures { result ≡ any (is_unmet (jobs_of self.now)) (map need_view needs.now) }
     {
         for need in needs {
-            if !need.optional && self.place_of(need.job).is_none() {
+            if self.is_unmet(need) {
                 return true;
             }
         }
@@ -72,10 +96,7 @@ impl<'a, 't> Lineup<'a, 't> {
         requires { IsPlaced self.now }
         ensures { result ≡ lacks_need (jobs_of self.now) (included_view job.now) }
     {
-        match &job.job.needs {
-            Some(needs) => self.has_unmet(needs),
-            None => false,
-        }
+        self.has_unmet(job.needs())
     }
 
     /// Does some job need one that isn't included?
@@ -105,13 +126,21 @@ impl<'a, 't> Lineup<'a, 't> {
         }
     }
 
+    /// Does the need name an included job of a later stage than this rank's?
+    pub fn names_later(&self, own: usize, need: &Need) -> bool
+        requires { IsPlaced self.now }
+        ensures { result ≡ names_later (stages_of self.now) (jobs_of self.now) own (need_view need.now) }
+    {
+        self.is_later(own, self.place_of(need.job))
+    }
+
     /// Does one of these needs name an included job of a later stage than this rank's?
     fn has_later(&self, own: usize, needs: &[Need]) -> bool
         requires { IsPlaced self.now }
         ensures { result ≡ any (names_later (stages_of self.now) (jobs_of self.now) own) (map need_view needs.now) }
     {
         for need in needs {
-            if self.is_later(own, self.place_of(need.job)) {
+            if self.names_later(own, need) {
                 return true;
             }
         }
@@ -122,10 +151,7 @@ impl<'a, 't> Lineup<'a, 't> {
         requires { IsPlaced self.now }
         ensures { result ≡ waits_for_later (stages_of self.now) (jobs_of self.now) (included_view job.now) }
     {
-        match &job.job.needs {
-            Some(needs) => self.has_later(rank(self.stages, job.job.stage), needs),
-            None => false,
-        }
+        self.has_later(self.rank_of(job), job.needs())
     }
 
     /// Does some job need one of a later stage?

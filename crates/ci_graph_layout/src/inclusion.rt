@@ -2,9 +2,9 @@
 
 ghost use Rattle.std.specs.Prelude.{◌≡◌, ◌++◌, IfOk, OnOk, map, filter, flat_map, not, option_map, unwrap_or};
 ghost use Rattle.ci_config.specs.Prelude.{AreAnswered, values_of, formula_of, layer_view, config_view, job_view, rule_view, variable_view};
-ghost use Rattle.ci_graph_layout.specs.Inclusion.{ByRule, NoneMatches, layered, holds, deciding, names, joined, may_fail, allowing, without_rules, by_rule, ruled, included};
+ghost use Rattle.ci_graph_layout.specs.Inclusion.{layered, holds, deciding, decision, decided, names, joined, may_fail, allowing, without_rules, by_rule, ruled, by_rules};
 ghost use Rattle.ci_graph_layout.specs.Searches.{condition_looks, rule_looks, job_looks};
-ghost use Rattle.ci_graph_layout.specs.View.{given_view, included_view};
+ghost use Rattle.ci_graph_layout.specs.View.{given_view, decision_view, decided_view, included_view};
 
 use crate::given::{Given, Variables, layered, pair_of, put_variables, seen};
 use ci_config::{Config, JobSpec, Rule, RuleWhen, Variable};
@@ -12,11 +12,30 @@ use ci_expr::{Answers, Env, Expr};
 use ci_values::when::{AllowFailure, When};
 use std::alloc::{AllocError, Global};
 
+/// What decides whether a pipeline has a job.
+#[derive(Clone, Copy)]
+pub enum Decision<'a, 't> {
+    /// It has no rules.
+    NoRules,
+    /// The first of its rules that matches, with its number, from 1.
+    ByRule(usize, &'a Rule<'t>),
+    NoneMatches,
+}
+
+/// A job of the file, and what decides whether the pipeline has it.
+#[derive(Clone, Copy)]
+pub struct Decided<'a, 't> {
+    pub job: &'a JobSpec<'t>,
+    pub decision: Decision<'a, 't>,
+}
+
 /// A job of a pipeline.
 #[derive(Drop)]
 pub struct IncludedJob<'a, 't> {
     /// What the file says of it.
     pub job: &'a JobSpec<'t>,
+    /// The number of the rule that included it, from 1. A job without rules has none.
+    pub rule: Option<usize>,
     pub when: When,
     pub allow_failure: AllowFailure,
     /// Those of the rule that included it, and then its own that the rule doesn't give.
@@ -50,16 +69,54 @@ fn holds(condition: &Option<Expr>, env: &Env, answers: &Answers) -> bool
 }
 
 /// The first rule that matches.
-fn deciding<'a, 't>(env: &Env, answers: &Answers, rules: &'a [Rule<'t>]) -> Option<&'a Rule<'t>>
+fn deciding<'a, 't>(env: &Env, answers: &Answers, rules: &'a [Rule<'t>]) -> Decision<'a, 't>
     requires { AreAnswered answers.now (flat_map (rule_looks (values_of env.now)) rules.now) }
-    ensures { unwrap_or (option_map (λ r. ByRule (rule_view r.now)) result) NoneMatches ≡ deciding (values_of env.now) (map rule_view rules.now) }
+    ensures { decision_view result ≡ deciding 1 (values_of env.now) (map rule_view rules.now) }
 {
-    for rule in rules {
+    for (i, rule) in rules.iter().enumerate() {
         if holds(&rule.condition, env, answers) {
-            return Some(rule);
+            return Decision::ByRule(i + 1, rule);
         }
     }
-    None
+    Decision::NoneMatches
+}
+
+/// What decides whether the pipeline has a job.
+fn decide<'a, 't>(
+    alloc: Global,
+    given: &Given<'a>,
+    config: &'a Config<'t>,
+    job: &'a JobSpec<'t>,
+    answers: &Answers,
+) -> Result<Decision<'a, 't>, AllocError>
+    requires { AreAnswered answers.now (job_looks (given_view given.now) config.now job.now) }
+    ensures { IfOk result (λ d. decision_view d ≡ decision (given_view given.now) (config_view config.now) (job_view job.now)) }
+{
+    match &job.rules {
+        None => Ok(Decision::NoRules),
+        Some(rules) => {
+            let pairs = seen(alloc, given, config, job)?;
+            Ok(deciding(&Env { pairs: &pairs }, answers, rules))
+        }
+    }
+}
+
+/// Each job of the file, in its order, and what decides whether the pipeline has it. What the rules look for was looked for before.
+pub(crate) fn decide_all<'a, 't>(
+    alloc: Global,
+    given: &Given<'a>,
+    config: &'a Config<'t>,
+    answers: &Answers,
+) -> Result<Vec<Decided<'a, 't>>, AllocError>
+    requires { AreAnswered answers.now (flat_map (job_looks (given_view given.now) config.now) config.now.jobs.items) }
+    ensures { IfOk result (λ ds. map decided_view ds.items ≡ decided (given_view given.now) (config_view config.now)) }
+{
+    let mut found = Vec::new(alloc);
+    for job in &config.jobs {
+        let decision = decide(alloc, given, config, job, answers)?;
+        found.push(Decided { job, decision })?;
+    }
+    Ok(found)
 }
 
 /// Do the pairs have the name?
@@ -148,20 +205,22 @@ fn without_rules<'a, 't>(
     put_variables(&mut variables, &job.variables)?;
     Ok(IncludedJob {
         job,
+        rule: None,
         when,
         allow_failure,
         variables,
     })
 }
 
-/// A job as the rule that includes it says.
+/// A job as the rule with this number says, which includes it.
 fn by_rule<'a, 't>(
     alloc: Global,
     job: &'a JobSpec<'t>,
+    number: usize,
     rule: &'a Rule<'t>,
     when: When,
 ) -> Result<IncludedJob<'a, 't>, AllocError>
-    ensures { IfOk result (λ i. included_view i ≡ by_rule (job_view job.now) (rule_view rule.now) when) }
+    ensures { IfOk result (λ i. included_view i ≡ by_rule (job_view job.now) number (rule_view rule.now) when) }
 {
     let allow_failure = match rule.allow_failure {
         Some(allowed) => allowing(allowed),
@@ -170,6 +229,7 @@ fn by_rule<'a, 't>(
     let variables = joined(alloc, &rule.variables, &job.variables)?;
     Ok(IncludedJob {
         job,
+        rule: Some(number),
         when,
         allow_failure,
         variables,
@@ -180,40 +240,31 @@ fn by_rule<'a, 't>(
 fn ruled<'a, 't>(
     alloc: Global,
     job: &'a JobSpec<'t>,
+    number: usize,
     rule: &'a Rule<'t>,
 ) -> Result<Option<IncludedJob<'a, 't>>, AllocError>
-    ensures { IfOk result (λ i. option_map included_view i ≡ ruled (job_view job.now) (rule_view rule.now)) }
+    ensures { IfOk result (λ i. option_map included_view i ≡ ruled (job_view job.now) number (rule_view rule.now)) }
 {
     match rule.when {
         Some(RuleWhen::Never) => Ok(None),
-        Some(RuleWhen::Runs(when)) => Ok(Some(by_rule(alloc, job, rule, when)?)),
+        Some(RuleWhen::Runs(when)) => Ok(Some(by_rule(alloc, job, number, rule, when)?)),
         None => {
             let when = job.when.unwrap_or(When::OnSuccess);
-            Ok(Some(by_rule(alloc, job, rule, when)?))
+            Ok(Some(by_rule(alloc, job, number, rule, when)?))
         }
     }
 }
 
-/// The job, where the pipeline has it. A job without rules is included; one with rules is where one of them matches, as the
-/// first that does says. What they look for was looked for before. Errors: memory was refused.
-pub fn included<'a, 't>(
-    alloc: Global,
-    given: &Given<'a>,
-    config: &'a Config<'t>,
-    job: &'a JobSpec<'t>,
-    answers: &Answers,
-) -> Result<Option<IncludedJob<'a, 't>>, AllocError>
-    requires { AreAnswered answers.now (job_looks (given_view given.now) config.now job.now) }
-    ensures { IfOk result (λ i. option_map included_view i ≡ included (given_view given.now) (config_view config.now) (job_view job.now)) }
-{
-    match &job.rules {
-        None => Ok(Some(without_rules(alloc, job)?)),
-        Some(rules) => {
-            let pairs = seen(alloc, given, config, job)?;
-            match deciding(&Env { pairs: &pairs }, answers, rules) {
-                Some(rule) => ruled(alloc, job, rule),
-                None => Ok(None),
-            }
+impl<'a, 't> Decided<'a, 't> {
+    /// The job, where the pipeline has it. A job without rules is included; one with rules is where one of them matches, as the first that does
+    /// says. Errors: memory was refused.
+    pub(crate) fn included(&self, alloc: Global) -> Result<Option<IncludedJob<'a, 't>>, AllocError>
+        ensures { IfOk result (λ i. option_map included_view i ≡ by_rules (job_view self.now.job.now) (decision_view self.now.decision)) }
+    {
+        match self.decision {
+            Decision::NoRules => Ok(Some(without_rules(alloc, self.job)?)),
+            Decision::ByRule(number, rule) => ruled(alloc, self.job, number, rule),
+            Decision::NoneMatches => Ok(None),
         }
     }
 }

@@ -17,9 +17,10 @@ mod planning;
 mod searches;
 
 pub use fault::{GraphCode, PlanFault};
-pub use given::{Given, Variables};
-pub use inclusion::IncludedJob;
+pub use given::{Given, Variables, seen};
+pub use inclusion::{Decided, Decision, IncludedJob};
 pub use limits::{MAX_NEEDS, MAX_SEARCH_COST};
 pub use pairs::Pairs;
+pub use places::Lineup;
 pub use planning::{PipelinePlan, plan, plan_by};
 pub use searches::{is_affordable, looks};

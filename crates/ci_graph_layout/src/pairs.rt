@@ -7,7 +7,7 @@ ghost use Rattle.ci_graph_layout.specs.Places.{IsPlaced, stages_of, jobs_of, nev
 ghost use Rattle.ci_graph_layout.specs.View.{included_view};
 
 use crate::inclusion::IncludedJob;
-use crate::places::{Lineup, rank};
+use crate::places::Lineup;
 use ci_config::Need;
 use std::alloc::{AllocError, Global};
 
@@ -50,7 +50,7 @@ impl<'a, 't> Lineup<'a, 't> {
     }
 
     /// Puts a pair behind those that are there for each predecessor of a job.
-    fn put_predecessors(
+    pub fn put_predecessors(
         &self,
         pairs: &mut Pairs,
         job: &IncludedJob,
@@ -65,7 +65,7 @@ impl<'a, 't> Lineup<'a, 't> {
                 pairs,
                 &self.ranks,
                 self.in_order,
-                rank(self.stages, job.job.stage),
+                self.rank_of(job),
                 position,
             ),
         }
@@ -73,7 +73,7 @@ impl<'a, 't> Lineup<'a, 't> {
 
     /// Each predecessor with the job that waits for it. A job that gives needs waits for those of them that are included, and
     /// any other for all jobs of earlier stages.
-    pub(crate) fn pairs(&self, alloc: Global) -> Result<Pairs, AllocError>
+    pub fn pairs(&self, alloc: Global) -> Result<Pairs, AllocError>
         requires { IsPlaced self.now }
         ensures { IfOk result (λ found. found.items ≡ pairs (stages_of self.now) (jobs_of self.now)) }
     {

@@ -3,19 +3,27 @@
 ghost use Rattle.std.specs.Prelude.{◌≡◌, ℕ, List, IfOk, map};
 ghost use Rattle.std.specs.HashMap as hash;
 ghost use Rattle.std.specs.Str.{bytes_eq};
-ghost use Rattle.ci_config.specs.Prelude.{words_view};
+ghost use Rattle.ci_config.specs.Prelude.{AreAnswered, config_view, words_view};
 ghost use Rattle.ci_graph_layout.specs.Layout.{rank, ranks, place_of};
-ghost use Rattle.ci_graph_layout.specs.Places.{IsPlaced, jobs_of, never_falls_from};
-ghost use Rattle.ci_graph_layout.specs.View.{included_view};
+ghost use Rattle.ci_graph_layout.specs.Places.{IsPlaced, IsLineup, stages_of, jobs_of, never_falls_from};
+ghost use Rattle.ci_graph_layout.specs.Searches.{all_looks};
+ghost use Rattle.ci_graph_layout.specs.View.{given_view, included_view};
 
-use crate::inclusion::IncludedJob;
+use crate::given::Given;
+use crate::inclusion::{Decided, IncludedJob, decide_all};
+use crate::lineup::lineup;
+use ci_config::Config;
+use ci_expr::Answers;
 use std::alloc::{AllocError, Global};
 use std::collections::HashMap;
 
 /// The included jobs in their order, and where each stands.
 #[derive(Drop)]
 pub struct Lineup<'a, 't> {
+    /// Those of the file.
     pub stages: &'a [&'a str],
+    /// All jobs of the file, in its order, and what decides whether the pipeline has them.
+    pub decided: Vec<Decided<'a, 't>>,
     pub jobs: Vec<IncludedJob<'a, 't>>,
     /// The position of the first job of each name.
     pub places: HashMap<&'a str, usize>,
@@ -77,26 +85,38 @@ fn never_falls(numbers: &[usize]) -> bool
 }
 
 impl<'a, 't> Lineup<'a, 't> {
-    /// The jobs, with the stages of their file.
+    /// The jobs that a file includes where these variables are given. What its rules look for was looked for before. Errors: memory was refused.
     pub fn new(
         alloc: Global,
-        stages: &'a [&'a str],
-        jobs: Vec<IncludedJob<'a, 't>>,
+        given: &Given<'a>,
+        config: &'a Config<'t>,
+        answers: &Answers,
     ) -> Result<Lineup<'a, 't>, AllocError>
+        requires { AreAnswered answers.now (all_looks (given_view given.now) config.now) }
         ensures placed { IfOk result IsPlaced }
-        ensures stages { IfOk result (λ l. l.stages ≡ stages.entry) }
-        ensures jobs { IfOk result (λ l. l.jobs ≡ jobs.entry) }
+        ensures lineup { IfOk result (IsLineup (given_view given.now) (config_view config.now)) }
     {
+        let stages = config.stages.as_slice();
+        let decided = decide_all(alloc, given, config, answers)?;
+        let jobs = lineup(alloc, stages, &decided)?;
         let places = places(alloc, &jobs)?;
         let ranks = ranks(alloc, stages, &jobs)?;
         let in_order = never_falls(&ranks);
         Ok(Lineup {
             stages,
+            decided,
             jobs,
             places,
             ranks,
             in_order,
         })
+    }
+
+    /// The place of a job's stage among the stages.
+    pub fn rank_of(&self, job: &IncludedJob) -> usize
+        ensures { result ≡ rank (stages_of self.now) (included_view job.now).job.stage }
+    {
+        rank(self.stages, job.job.stage)
     }
 
     /// Where the first job of a name stands, if there is one.

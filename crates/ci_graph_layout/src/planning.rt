@@ -3,7 +3,8 @@
 ghost use Rattle.std.specs.Prelude.{IfOk};
 ghost use Rattle.ci_config.specs.Prelude.{AreAnswered, config_view};
 ghost use Rattle.ci_graph_layout.specs.Parts.{CanBeGraph};
-ghost use Rattle.ci_graph_layout.specs.Plans.{Gives, plan_view};
+ghost use Rattle.ci_graph_layout.specs.Places.{IsPlaced, stages_of, jobs_of};
+ghost use Rattle.ci_graph_layout.specs.Plans.{Gives, Orders, plan_view};
 ghost use Rattle.ci_graph_layout.specs.Searches.{all_looks};
 ghost use Rattle.ci_graph_layout.specs.View.{given_view};
 
@@ -11,7 +12,6 @@ use crate::fault::{GraphCode, PlanFault};
 use crate::given::Given;
 use crate::inclusion::IncludedJob;
 use crate::laws::searches_for_patterns_alone;
-use crate::lineup::lineup;
 use crate::pairs::Pairs;
 use crate::places::Lineup;
 use crate::searches::looks;
@@ -26,6 +26,24 @@ use std::alloc::Global;
 pub struct PipelinePlan<'a, 't> {
     pub jobs: Vec<IncludedJob<'a, 't>>,
     pub pairs: Pairs,
+}
+
+impl<'a, 't> Lineup<'a, 't> {
+    /// The pairs of the jobs, where they make a pipeline. Errors: memory was refused, or the first fault, as of `plan`.
+    pub fn ordered(&self, alloc: Global) -> Result<Pairs, PlanFault>
+        requires { IsPlaced self.now }
+        ensures orders { Orders (stages_of self.now) (jobs_of self.now) result }
+        ensures graph { IfOk result (λ found. CanBeGraph (record { jobs = jobs_of self.now; pairs = found.items })) }
+    {
+        if let Some(code) = self.first_fault() {
+            return Err(PlanFault::Fault(code));
+        }
+        let pairs = self.pairs(alloc)?;
+        if !are_acyclic(alloc, self.jobs.len(), &pairs)? {
+            return Err(PlanFault::Fault(GraphCode::G3));
+        }
+        Ok(pairs)
+    }
 }
 
 /// The plan of a pipeline: the jobs that a file includes where these variables are given, and which of them waits for which. What its rules
@@ -59,15 +77,8 @@ pub fn plan_by<'a, 't>(
     ensures plan { Gives (given_view given.now) (config_view config.now) result }
     ensures graph { IfOk result (λ p. CanBeGraph (plan_view p)) }
 {
-    let jobs = lineup(alloc, given, config, answers)?;
-    let lineup = Lineup::new(alloc, &config.stages, jobs)?;
-    if let Some(code) = lineup.first_fault() {
-        return Err(PlanFault::Fault(code));
-    }
-    let pairs = lineup.pairs(alloc)?;
-    if !are_acyclic(alloc, lineup.jobs.len(), &pairs)? {
-        return Err(PlanFault::Fault(GraphCode::G3));
-    }
+    let lineup = Lineup::new(alloc, given, config, answers)?;
+    let pairs = lineup.ordered(alloc)?;
     let Lineup { jobs, .. } = lineup;
     Ok(PipelinePlan { jobs, pairs })
 }

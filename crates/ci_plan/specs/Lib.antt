@@ -4,5 +4,4 @@ pub mod Circles
 pub mod Faults
 pub mod Said
 pub mod Notes
-pub mod Views
 pub mod TableText

@@ -1,17 +1,15 @@
 -- What is said of a file before a pipeline is made of it.
-use Rattle.std.specs.Prelude.{◌≡◌, ℕ, List, [], Option, Some, None, Result, Ok, Err, IfSome, ◌⊎◌, ⊤}
+use Rattle.std.specs.Prelude.{◌≡◌, ℕ, List, [], Option, Result, Ok, Err, IfSome, ◌⊎◌, ⊤}
 use Rattle.std.specs.IoError.{error_kind}
 use Rattle.std.specs.Str.{IsUtf8}
 use Rattle.std.specs.declared.io.Error.{Error}
 use Rattle.ci_config.specs.Prelude.{Value}
 use Rattle.ci_yaml.specs.Prelude.{HasTree}
 use Rattle.ci_yaml.specs.declared.fault.YamlFault.{YamlFault}
-use Rattle.ci_graph_layout.specs.Prelude.{X8, Config, ConfigFault, ConfigLacksPatterns, Given, lineup, pairs, Plans}
+use Rattle.ci_graph_layout.specs.Prelude.{X8, Text, Config, ConfigFault, ConfigLacksPatterns, Given, IncludedJob, decided, lineup, pairs, Plans}
 use Rattle.ci_config.specs.declared.fault.ConfigCode.TheVariants.{K13}
 use Rattle.ci_graph_layout.specs.Fault as layout
-use Rattle.ci_graph_layout.specs.declared.fault.GraphCode.{GraphCode}
 use Rattle.ci_graph_layout.specs.declared.fault.PlanFault.{PlanFault}
-use Rattle.ci_graph_layout.specs.declared.planning.PipelinePlan.{PipelinePlan}
 use Rattle.ci_machine_steps.specs.Prelude.{NewPipeline, IsRead, given_by}
 use Rattle.ci_explain.specs.Verdicts.{Fits, FitsText, TellsUnread}
 use Rattle.ci_explain.specs.Verdicts.{status as verdict_status}
@@ -33,28 +31,19 @@ laid_out g c = record { jobs = lineup g c; pairs = pairs c.stages (lineup g c) }
 
 -- The file lays out a pipeline, and these are its jobs; or it has this fault, and these are the jobs that the fault is about.
 abbrev pub TellsJobs : Given → Config → Result (List PlannedJob) Fault → Type 0
-TellsJobs g c (Ok jobs) = Plans g c (Ok (laid_out g c)) × (jobs ≡ planned_jobs g c)
+TellsJobs g c (Ok jobs) = Plans g c (Ok (laid_out g c)) × (jobs ≡ planned_jobs c.stages (lineup g c))
 TellsJobs g c (Err fault) = Plans g c (Err (code_of fault)) × IsAbout c.stages (lineup g c) fault
+
+-- the same of each file that includes these jobs; or why that isn't known: memory was refused
+abbrev pub GivesJobs : List Text → List IncludedJob → Result (Result (List PlannedJob) Fault) PlanFault → Type 0
+GivesJobs stages is (Ok told) = (g : Given) (c : Config) → stages ≡ c.stages → is ≡ lineup g c → TellsJobs g c told
+GivesJobs stages is (Err PlanFault.Memory) = ⊤
+GivesJobs stages is (Err other) = ⊥
 
 -- this is what a pipeline would be that brings these variables
 pub record Tells (g : Given) (c : Config) (plan : Plan) : Type 0 where
   pub jobs : TellsJobs g c plan.jobs
-  pub left_out : plan.left_out ≡ left_out g c c.jobs
-
--- whether the file lays out a pipeline, or the code of its fault; or why that isn't known: memory was refused, or a pattern
-abbrev pub Lays : Given → Config → Result (Option GraphCode) PlanFault → Type 0
-Lays g c (Ok None) = Plans g c (Ok (laid_out g c))
-Lays g c (Ok (Some code)) = Plans g c (Err code)
-Lays g c (Err (PlanFault.Fault code)) = ⊥
-Lays g c (Err PlanFault.Pattern) = ConfigLacksPatterns c → ⊥
-Lays g c (Err PlanFault.Memory) = ⊤
-
--- what is answered where a plan is asked, without the plan
-abbrev pub fault_in : Result PipelinePlan PlanFault → Result (Option GraphCode) PlanFault
-fault_in (Ok plan) = Ok None
-fault_in (Err (PlanFault.Fault code)) = Ok (Some code)
-fault_in (Err PlanFault.Pattern) = Err PlanFault.Pattern
-fault_in (Err PlanFault.Memory) = Err PlanFault.Memory
+  pub left_out : plan.left_out ≡ left_out (decided g c)
 
 -- why nothing is told of a file that can be read: memory was refused, or a pattern
 abbrev pub Gives : Given → Config → Result Plan PlanFault → Type 0

@@ -2,13 +2,10 @@
 #![tactic(auto)]
 
 mod circles;
-mod deciding;
-mod entries;
 mod faults;
 mod file;
 mod left_out;
 mod notes;
-mod places;
 mod planned;
 mod planning;
 mod records;

@@ -6,11 +6,10 @@ ghost use Rattle.ci_config.specs.Prelude.{value_view};
 ghost use Rattle.ci_graph_layout.specs.Prelude.{token_view, list_of, map_of, text_of, config_view, pairs_view, values_view, names, given_view};
 ghost use Rattle.ci_plan.specs.Notes.{is_defined, is_other_of_gitlab, is_of_gitlab, is_sign, variable_of, matters, side, first_compared, compared, compared_in, known, member, rules_in, items_by, condition_in, with_names, of_condition, of_rules, is_noted, each_once, notes_of};
 
-use crate::deciding::seen;
 use crate::records::Note;
 use ci_config::Config;
 use ci_expr::{ExprFault, Kind, Token, tokens};
-use ci_graph_layout::Given;
+use ci_graph_layout::{Given, seen};
 use ci_machine::text::Text;
 use ci_values::items::Items;
 use ci_yaml::Tree;

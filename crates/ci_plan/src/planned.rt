@@ -1,62 +1,98 @@
 //! What is told of each job of the pipeline.
 
 ghost use Rattle.std.specs.Prelude.{◌≡◌, IfOk, map};
-ghost use Rattle.ci_machine_steps.specs.Prelude.{words_view};
-ghost use Rattle.ci_plan.specs.Planned.{name_at};
-ghost use Rattle.ci_plan.specs.Views.{entry_view, lined, planned_entry};
+ghost use Rattle.ci_graph_layout.specs.Prelude.{predecessors, IsPlaced, stages_of, jobs_of, included_view};
+ghost use Rattle.ci_plan.specs.Planned.{name_at, planned_job, planned_jobs};
 
-use crate::entries::Entry;
-use crate::places::{name_at, predecessors};
 use crate::records::PlannedJob;
+use ci_graph_layout::{IncludedJob, Lineup};
 use ci_machine::text::{Text, Texts};
 use ci_values::items::Items;
 use std::alloc::{AllocError, Global};
 
+/// The name of the job at a position.
+fn name_at<'a, 't>(jobs: &[IncludedJob<'a, 't>], place: usize) -> &'a str
+    ensures { result.now ≡ name_at (map included_view jobs.now) place }
+{
+    if place < jobs.len() {
+        jobs[place].job.name
+    } else {
+        ""
+    }
+}
+
 /// The names of the jobs at these positions.
 pub(crate) fn names_at(
     alloc: Global,
-    entries: &[Entry],
+    jobs: &[IncludedJob],
     places: &[usize],
 ) -> Result<Texts, AllocError>
-    ensures { IfOk result (λ names. names ≡ map (name_at (lined entries.now)) places.now) }
+    ensures { IfOk result (λ names. names ≡ map (name_at (map included_view jobs.now)) places.now) }
 {
     let mut names = Vec::new(alloc);
     for place in places {
-        names.push(Text::copy_of(alloc, name_at(entries, *place))?)?;
+        names.push(Text::copy_of(alloc, name_at(jobs, *place))?)?;
     }
     Ok(Items::new(names))
 }
 
-/// What is told of a job of the pipeline.
+/// The names of the jobs at the first positions of these pairs.
+fn names_of_firsts(
+    alloc: Global,
+    jobs: &[IncludedJob],
+    pairs: &[(usize, usize)],
+) -> Result<Texts, AllocError>
+    ensures { IfOk result (λ names. names ≡ map (λ p. name_at (map included_view jobs.now) p.0) pairs.now) }
+{
+    let mut names = Vec::new(alloc);
+    for pair in pairs {
+        names.push(Text::copy_of(alloc, name_at(jobs, pair.0))?)?;
+    }
+    Ok(Items::new(names))
+}
+
+/// The names of the jobs for which the job at a position waits.
+fn waits_for(
+    alloc: Global,
+    lineup: &Lineup,
+    job: &IncludedJob,
+    place: usize,
+) -> Result<Texts, AllocError>
+    requires { IsPlaced lineup.now }
+    ensures { IfOk result (λ names. names ≡ map (name_at (jobs_of lineup.now)) (predecessors (stages_of lineup.now) (jobs_of lineup.now) (included_view job.now))) }
+{
+    let mut pairs = Vec::new(alloc);
+    lineup.put_predecessors(&mut pairs, job, place)?;
+    names_of_firsts(alloc, &lineup.jobs, &pairs)
+}
+
+/// What is told of the job at a position.
 fn planned_job(
     alloc: Global,
-    stages: &[&str],
-    entries: &[Entry],
-    entry: &Entry,
+    lineup: &Lineup,
+    job: &IncludedJob,
+    place: usize,
 ) -> Result<PlannedJob, AllocError>
-    ensures { IfOk result (λ p. p ≡ planned_entry (words_view stages.now) (lined entries.now) (entry_view entry.now)) }
+    requires { IsPlaced lineup.now }
+    ensures { IfOk result (λ p. p ≡ planned_job (stages_of lineup.now) (jobs_of lineup.now) (included_view job.now)) }
 {
-    let before = predecessors(alloc, stages, entries, entry.job)?;
     Ok(PlannedJob {
-        name: Text::copy_of(alloc, entry.job.name)?,
-        stage: Text::copy_of(alloc, entry.job.stage)?,
-        when: entry.when,
-        rule: entry.rule,
-        waits_for: names_at(alloc, entries, &before)?,
+        name: Text::copy_of(alloc, job.job.name)?,
+        stage: Text::copy_of(alloc, job.job.stage)?,
+        when: job.when,
+        rule: job.rule,
+        waits_for: waits_for(alloc, lineup, job, place)?,
     })
 }
 
 /// What is told of each job of the pipeline, in their order.
-pub(crate) fn planned_jobs(
-    alloc: Global,
-    stages: &[&str],
-    entries: &[Entry],
-) -> Result<Items<PlannedJob>, AllocError>
-    ensures { IfOk result (λ ps. ps ≡ map (planned_entry (words_view stages.now) (lined entries.now)) (map entry_view entries.now)) }
+pub(crate) fn planned_jobs(alloc: Global, lineup: &Lineup) -> Result<Items<PlannedJob>, AllocError>
+    requires { IsPlaced lineup.now }
+    ensures { IfOk result (λ ps. ps ≡ planned_jobs (stages_of lineup.now) (jobs_of lineup.now)) }
 {
     let mut jobs = Vec::new(alloc);
-    for entry in entries {
-        jobs.push(planned_job(alloc, stages, entries, entry)?)?;
+    for (i, job) in lineup.jobs.iter().enumerate() {
+        jobs.push(planned_job(alloc, lineup, job, i)?)?;
     }
     Ok(Items::new(jobs))
 }

@@ -1,11 +1,10 @@
 //! What a pipeline would be, of what a file configures.
 
-ghost use Rattle.std.specs.Prelude.{◌≡◌, IfOk, map, Ok};
-ghost use Rattle.ci_graph_layout.specs.Prelude.{AreAnswered, config_view, all_looks, given_view, lineup};
-ghost use Rattle.ci_plan.specs.Said.{Gives, Lays, fault_in, TellsJobs};
-ghost use Rattle.ci_plan.specs.Views.{entry_view, taken};
+ghost use Rattle.std.specs.Prelude.{◌≡◌};
+ghost use Rattle.ci_graph_layout.specs.Prelude.{AreAnswered, config_view, all_looks, given_view, IsPlaced, IsLineup, stages_of, jobs_of};
+ghost use Rattle.ci_graph_layout.specs.Prelude as layout;
+ghost use Rattle.ci_plan.specs.Said.{Gives, GivesJobs};
 
-use crate::entries::{Entry, entries};
 use crate::faults::fault_of;
 use crate::left_out::left_out;
 use crate::planned::planned_jobs;
@@ -13,58 +12,37 @@ use crate::records::{Fault, Plan, PlannedJob};
 use ci_config::Config;
 use ci_expr::Answers;
 use ci_graph_layout::laws::searches_for_patterns_alone;
-use ci_graph_layout::{Given, GraphCode, PipelinePlan, PlanFault, is_affordable, looks, plan_by};
+use ci_graph_layout::{Given, Lineup, PlanFault, is_affordable, looks};
 use ci_values::items::Items;
-use std::alloc::{AllocError, Global};
+use std::alloc::Global;
 
-/// The fault in what is answered where a plan is asked, if it is one of the graph.
-fn fault_in(planned: &Result<PipelinePlan, PlanFault>) -> Result<Option<GraphCode>, PlanFault>
-    ensures { result ≡ fault_in planned.now }
+/// What is told of the jobs: each of them, or why there is no pipeline.
+fn told_jobs(alloc: Global, lineup: &Lineup) -> Result<Result<Items<PlannedJob>, Fault>, PlanFault>
+    requires { IsPlaced lineup.now }
+    ensures { GivesJobs (stages_of lineup.now) (jobs_of lineup.now) result }
 {
-    match planned {
-        Ok(_) => Ok(None),
-        Err(PlanFault::Fault(code)) => Ok(Some(*code)),
+    match lineup.ordered(alloc) {
+        Ok(_) => {
+            let jobs = planned_jobs(alloc, lineup)?;
+            Ok(Ok(jobs))
+        }
+        Err(PlanFault::Fault(code)) => {
+            let fault = fault_of(alloc, lineup, code)?;
+            Ok(Err(fault))
+        }
         Err(PlanFault::Pattern) => Err(PlanFault::Pattern),
         Err(PlanFault::Memory) => Err(PlanFault::Memory),
     }
 }
 
-/// The fault of the layout, if it has one.
-fn layout_fault<'a, 't>(
-    alloc: Global,
-    given: &Given<'a>,
-    config: &'a Config<'t>,
-    answers: &Answers,
-) -> Result<Option<GraphCode>, PlanFault>
-    requires { AreAnswered answers.now (all_looks (given_view given.now) config.now) }
-    ensures { Lays (given_view given.now) (config_view config.now) result }
+/// The same as `plan`, of the jobs that the file includes.
+fn plan_of(alloc: Global, lineup: &Lineup) -> Result<Plan, PlanFault>
+    requires { IsPlaced lineup.now }
+    ensures { (g : layout.Given) (c : layout.Config) → IsLineup g c lineup.now → Gives g c result }
 {
-    let planned = plan_by(alloc, given, config, answers);
-    fault_in(&planned)
-}
-
-/// What is told of the jobs: each of them, or why there is no pipeline.
-fn jobs_by<'a, 't>(
-    alloc: Global,
-    given: &Given<'a>,
-    config: &'a Config<'t>,
-    entries: &[Entry<'a, 't>],
-    fault: Option<GraphCode>,
-) -> Result<Result<Items<PlannedJob>, Fault>, AllocError>
-    requires entries { map entry_view entries.now ≡ map (taken (given_view given.now) (config_view config.now)) (lineup (given_view given.now) (config_view config.now)) }
-    requires fault { Lays (given_view given.now) (config_view config.now) (Ok fault) }
-    ensures { IfOk result (TellsJobs (given_view given.now) (config_view config.now)) }
-{
-    match fault {
-        None => {
-            let jobs = planned_jobs(alloc, &config.stages, entries)?;
-            Ok(Ok(jobs))
-        }
-        Some(code) => {
-            let fault = fault_of(alloc, &config.stages, entries, code)?;
-            Ok(Err(fault))
-        }
-    }
+    let jobs = told_jobs(alloc, lineup)?;
+    let left_out = left_out(alloc, &lineup.decided)?;
+    Ok(Plan { jobs, left_out })
 }
 
 /// The same as `plan`, where what the rules look for was looked for before.
@@ -77,11 +55,8 @@ fn plan_with<'a, 't>(
     requires { AreAnswered answers.now (all_looks (given_view given.now) config.now) }
     ensures { Gives (given_view given.now) (config_view config.now) result }
 {
-    let left_out = left_out(alloc, given, config, answers)?;
-    let entries = entries(alloc, given, config, answers)?;
-    let fault = layout_fault(alloc, given, config, answers)?;
-    let jobs = jobs_by(alloc, given, config, &entries, fault)?;
-    Ok(Plan { jobs, left_out })
+    let lineup = Lineup::new(alloc, given, config, answers)?;
+    plan_of(alloc, &lineup)
 }
 
 /// What a pipeline would be that brings these variables to what a file configures. What its rules look for is looked for once, where that

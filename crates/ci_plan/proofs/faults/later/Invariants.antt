@@ -1,8 +1,7 @@
-use Rattle.std.proofs.Common.{◌≡◌, ◌++◌, drop, flat_map}
-use Rattle.ci_machine_steps.specs.Prelude.{words_view}
-use Rattle.ci_plan.specs.Faults.{later_of}
-use Rattle.ci_plan.specs.Views.{lined}
+use Rattle.std.proofs.Common.{◌≡◌, ◌++◌, drop, map, flat_map}
+use Rattle.ci_graph_layout.specs.Prelude.{stages_of, jobs_of, included_view}
+use Rattle.ci_plan.specs.Faults.{later_of, later}
 use Rattle.ci_plan.proofs.faults.later.Given as goal
 
-abbrev pub invariant-loop-entry : goal.invariant-loop-entry
-invariant-loop-entry l = l.found.items ++ flat_map (later_of (words_view l.fn.stages) (lined l.fn.entries)) (lined (drop l.entry-index l.entries)) ≡ flat_map (later_of (words_view l.fn.stages) (lined l.fn.entries)) (lined l.entries)
+abbrev pub invariant-loop-job : goal.invariant-loop-job
+invariant-loop-job l = l.found.items ++ flat_map (later_of (stages_of l.lineup) (jobs_of l.lineup)) (map included_view (drop l.job-index l.lineup.jobs.items)) ≡ later (stages_of l.lineup) (jobs_of l.lineup)

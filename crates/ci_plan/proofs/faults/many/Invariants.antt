@@ -1,7 +1,7 @@
-use Rattle.std.proofs.Common.{◌≡◌, ◌++◌, drop}
+use Rattle.std.proofs.Common.{◌≡◌, ◌++◌, drop, map}
+use Rattle.ci_graph_layout.specs.Prelude.{included_view}
 use Rattle.ci_plan.specs.Faults.{many}
-use Rattle.ci_plan.specs.Views.{lined}
 use Rattle.ci_plan.proofs.faults.many.Given as goal
 
-abbrev pub invariant-loop-entry : goal.invariant-loop-entry
-invariant-loop-entry l = l.found.items ++ many (lined (drop l.entry-index l.entries)) ≡ many (lined l.entries)
+abbrev pub invariant-loop-job : goal.invariant-loop-job
+invariant-loop-job l = l.found.items ++ many (map included_view (drop l.job-index l.jobs)) ≡ many (map included_view l.jobs)

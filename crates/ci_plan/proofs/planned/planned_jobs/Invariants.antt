@@ -1,7 +1,7 @@
 use Rattle.std.proofs.Common.{◌≡◌, ◌++◌, drop, map}
-use Rattle.ci_machine_steps.specs.Prelude.{words_view}
-use Rattle.ci_plan.specs.Views.{entry_view, lined, planned_entry}
+use Rattle.ci_graph_layout.specs.Prelude.{stages_of, jobs_of, included_view}
+use Rattle.ci_plan.specs.Planned.{planned_job, planned_jobs}
 use Rattle.ci_plan.proofs.planned.planned_jobs.Given as goal
 
-abbrev pub invariant-loop-entry : goal.invariant-loop-entry
-invariant-loop-entry l = l.jobs.items ++ map (planned_entry (words_view l.fn.stages) (lined l.fn.entries)) (map entry_view (drop l.entry-index l.entries)) ≡ map (planned_entry (words_view l.fn.stages) (lined l.fn.entries)) (map entry_view l.entries)
+abbrev pub invariant-loop-i : goal.invariant-loop-i
+invariant-loop-i l = l.jobs.items ++ map (planned_job (stages_of l.fn.lineup) (jobs_of l.fn.lineup)) (map included_view (drop l.i l.fn.lineup.jobs.items)) ≡ planned_jobs (stages_of l.fn.lineup) (jobs_of l.fn.lineup)
