@@ -1,15 +1,18 @@
 -- What is read one after the other, up to the entry that has the fault.
 use Rattle.std.proofs.Common.{◌≡◌, ℕ, suc, ◌+◌, ◌≤◌, Bool, true, false, cond, List, [], ◌∷◌, ◌++◌, length, Result, Ok, Err, refl, sym, ◌∙◌, ap, subst, arith, eqb-true, eq-eqb}
-use Rattle.std.proofs.Common.{◌==◌}
+use Rattle.std.proofs.Common.{◌==◌, ◌<◌, get_or, drop, map, vec_len}
+use Rattle.std.proofs.lemmas.List.{map-append}
+use Rattle.std.specs.Global.{Vec}
 use Rattle.std.specs.Prelude.{⊤}
 use Rattle.ci_config.specs.declared.fault.Way.{Way}
-use Rattle.ci_config.specs.Prelude.{X8, Patterns, built, refused, refused_at, below, Fault, K13, Placed, code_view, way_view, GivesAt, IsWithin, ◌>>=◌, fails_at, within}
+use Rattle.ci_config.specs.Prelude.{X8, Patterns, built, refused, refused_at, below, Fault, Placed, code_view, way_view, GivesAt, IsWithin, ◌>>=◌, fails_at, within}
 use Rattle.ci_config.specs.Prelude.{each, entries}
 use Rattle.ci_config_reader.specs.Answer.{builds_with, builds_for}
 use Rattle.ci_config.specs.declared.fault.ConfigCode.{ConfigCode}
 use Rattle.ci_config.specs.declared.fault.ReadFault.{ReadFault}
 use Rattle.ci_config.specs.declared.fault.ReadFault.TheVariants.{Memory, Here, Inside}
 use Rattle.ci_config.proofs.Owns.{Own, is_x8}
+use Rattle.ci_config_reader.proofs.Trees.{step, count-is}
 
 -- ---- a fault, whatever would be read else
 abbrev pub Fails : {Y : Type 0} → ReadFault → Result Y Placed → Type 0
@@ -63,6 +66,19 @@ each-fails read done x rest xs all from e d are is of w h =
     fails-same d (within (length done) (read done x) >>= λ y. each read (done ++ y ∷ []) rest) (from >>= λ ys. each read [] ys)
     (sym (ap (each read done) are) ∙ is ∙ sym (ap (λ r. r >>= λ ys. each read [] ys) of))
     (fails-then d (within (length done) (read done x)) (λ y. each read (done ++ y ∷ []) rest) (fails-within (length done) e d (read done x) w h))
+
+-- one of a list of the code, and the list that grows by what is read of it
+module _ {A B C D : Type 0} (from_code : C → A) (view : D → B) (read : List B → A → Result B Placed) (xs : List C) (i : ℕ) (x : C) (there : i < length xs) (is : x ≡ get_or xs i x) (done : Vec D)
+    (leads : each read (map view done.items) (map from_code (drop i xs)) ≡ each read [] (map from_code xs)) where
+  pub item-next : (y : D) (next : Vec D) → read (map view done.items) (from_code x) ≡ Ok (view y) → next.items ≡ done.items ++ y ∷ [] → each read (map view next.items) (map from_code (drop (i + 1) xs)) ≡ each read [] (map from_code xs)
+  item-next y next h grown =
+      each-next read (map view done.items) (map view next.items) (from_code x) (map from_code (drop (i + 1) xs)) (map from_code (drop i xs)) (view y) (each read [] (map from_code xs)) (step from_code xs i x there is) leads h
+      (ap (map view) grown ∙ map-append view done.items (y ∷ []))
+
+  pub item-fails : (from : Result (List A) Placed) (e d : ReadFault) (n : ℕ) → from ≡ Ok (map from_code xs) → n ≡ vec_len done → IsWithin n e d → Fails e (read (map view done.items) (from_code x)) → Fails d (from >>= λ ys. each read [] ys)
+  item-fails from e d n of counted w h =
+      each-fails read (map view done.items) (from_code x) (map from_code (drop (i + 1) xs)) (map from_code (drop i xs)) (map from_code xs) from e d (step from_code xs i x there is) leads of
+      (subst (λ n. IsWithin n e d) (sym (count-is view done n counted)) w) h
 
 -- ---- what may hold expressions
 -- each pattern is built, but perhaps those of one entry behind so many, or of a later one

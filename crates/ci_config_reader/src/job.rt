@@ -3,7 +3,6 @@
 ghost use Rattle.std.specs.Prelude.{◌≡◌, Ok};
 ghost use Rattle.ci_config.specs.Prelude.{value_view, GivesAt, lines_of, script_of, plain_job_value, rules_value, job_entry, blank_job, job_from, pairs_view, texts_view, job_view};
 ghost use Rattle.ci_config_reader.specs.Answer.{builds_for};
-ghost use Rattle.ci_config.specs.Jobs.{job_value};
 
 use crate::allow_failure::allow_failure_of;
 use crate::key::keyword_of;
@@ -107,21 +106,6 @@ fn set_rules<'t>(
     }
 }
 
-fn set<'t>(
-    job: &mut JobSpec<'t>,
-    alloc: Global,
-    keyword: JobKeyword,
-    tree: &'t Tree,
-    budget: &mut PatternBudget,
-) -> Result<(), ReadFault>
-    ensures { GivesAt (λ _. job_view job.new) result (job_value keyword (value_view tree.now) (job_view job.old) (builds_for result)) }
-{
-    match keyword {
-        JobKeyword::Rules => set_rules(job, alloc, tree, budget),
-        JobKeyword::Plain(keyword) => set_plain(job, alloc, keyword, tree),
-    }
-}
-
 /// Sets what an entry says.
 fn enter<'t>(
     job: &mut JobSpec<'t>,
@@ -133,7 +117,8 @@ fn enter<'t>(
     ensures { GivesAt (λ _. job_view job.new) result (job_entry (builds_for result) (key.now, value_view tree.now) (job_view job.old)) }
 {
     match keyword_of(&JOB_KEYWORDS, &JOB_LEFT_OUT, key) {
-        Ok(keyword) => set(job, alloc, keyword, tree, budget),
+        Ok(JobKeyword::Rules) => set_rules(job, alloc, tree, budget),
+        Ok(JobKeyword::Plain(keyword)) => set_plain(job, alloc, keyword, tree),
         Err(fault) => Err(fault),
     }
 }

@@ -1,7 +1,7 @@
 //! The rules of a job.
 
 ghost use Rattle.std.specs.Prelude.{◌≡◌, ℕ, List, length};
-ghost use Rattle.ci_config.specs.Prelude.{value_view, formula_of, Rule as Meant, condition_of, GivesAt, plain_rule_value, condition_value, rule_value, rule_entry, rule_from};
+ghost use Rattle.ci_config.specs.Prelude.{value_view, formula_of, Rule as Meant, condition_of, GivesAt, plain_rule_value, condition_value, rule_entry, rule_from};
 ghost use Rattle.ci_config.specs.Prelude.{rule_of, rules_from, rules_of, values_view, pairs_view, rule_view, rules_view};
 ghost use Rattle.ci_config_reader.specs.Answer.{builds_for};
 
@@ -66,21 +66,6 @@ fn set_plain<'t>(
     Ok(())
 }
 
-fn set<'t>(
-    rule: &mut Rule<'t>,
-    alloc: Global,
-    keyword: RuleKeyword,
-    tree: &'t Tree,
-    budget: &mut PatternBudget,
-) -> Result<(), ReadFault>
-    ensures { GivesAt (λ _. rule_view rule.new) result (rule_value keyword (value_view tree.now) (rule_view rule.old) (builds_for result)) }
-{
-    match keyword {
-        RuleKeyword::If => set_condition(rule, alloc, tree, budget),
-        RuleKeyword::Plain(keyword) => set_plain(rule, alloc, keyword, tree),
-    }
-}
-
 /// Sets what an entry says.
 fn enter<'t>(
     rule: &mut Rule<'t>,
@@ -92,7 +77,8 @@ fn enter<'t>(
     ensures { GivesAt (λ _. rule_view rule.new) result (rule_entry (builds_for result) (key.now, value_view tree.now) (rule_view rule.old)) }
 {
     match keyword_of(&RULE_KEYWORDS, &RULE_LEFT_OUT, key) {
-        Ok(keyword) => set(rule, alloc, keyword, tree, budget),
+        Ok(RuleKeyword::If) => set_condition(rule, alloc, tree, budget),
+        Ok(RuleKeyword::Plain(keyword)) => set_plain(rule, alloc, keyword, tree),
         Err(fault) => Err(fault),
     }
 }

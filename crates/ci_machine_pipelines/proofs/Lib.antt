@@ -1,3 +1,4 @@
 pub mod Readings
 pub mod Merging
 pub mod Laying
+pub mod Untried

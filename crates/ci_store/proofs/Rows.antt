@@ -2,11 +2,11 @@
 use Rattle.std.proofs.Common.{◌≡◌, inl, inr, ℤ, List, [], ◌∷◌, map, filter, Bool, true, false, not, cond, ◌||◌, Ordering, Less, Equal, Greater, refl, sym, ap, subst, ◌∙◌, IsPermutation, IsTrue, is_eq}
 use Rattle.std.specs.Ordering.{match_ordering}
 use Rattle.std.specs.List.{list_any}
-use Rattle.std.proofs.lemmas.Bool.{and_parts, or_parts, not-true}
+use Rattle.std.proofs.lemmas.Bool.{or_parts}
 use Rattle.std.proofs.lemmas.Cmp.{tied_itself}
 use Rattle.std.proofs.lemmas.Cmp.{tied_back}
 use Rattle.std.proofs.lemmas.List.Sorted.{IsPermutation-refl, IsPermutation-sym, IsPermutation-cons, IsPermutation-trans, IsPermutation-middle, list_any-IsPermutation}
-use Rattle.ci_store.specs.Prelude.{Int, value_cmp, has_rowid, without_rowid, IsTable, is_int, IsShaped, Has, is_taken, are_fresh}
+use Rattle.ci_store.specs.Prelude.{Int, value_cmp, has_rowid, without_rowid, IsTable, is_int, IsShaped, Has, is_taken}
 use Rattle.sqlite_value.specs.Order.{Row}
 use Rattle.sqlite_value.proofs.OrderLemmas.{value_cmp_total}
 use Rattle.sqlite_trees.specs.Tree.{rowid, put_row}
@@ -103,7 +103,7 @@ Put o new r rows = match_ordering o (r ∷ put_row new rows) (new ∷ rows) (new
 swapped : (a b : Row) (rows : List Row) → IsPermutation (a ∷ b ∷ rows) (b ∷ a ∷ rows)
 swapped a b rows = IsPermutation-sym _ _ (IsPermutation-middle (b ∷ []) a rows)
 
-put_free : (new : Row) (rows : List Row) → is_taken rows new ≡ false → IsPermutation (new ∷ rows) (put_row new rows)
+pub put_free : (new : Row) (rows : List Row) → is_taken rows new ≡ false → IsPermutation (new ∷ rows) (put_row new rows)
 put_free new [] free = IsPermutation-refl _
 put_free new (r ∷ rows) free = go (value_cmp (rowid r) (rowid new)) (or_parts _ _ free).0 (put_free new rows (or_parts _ _ free).1)
   where
@@ -111,6 +111,3 @@ put_free new (r ∷ rows) free = go (value_cmp (rowid r) (rowid new)) (or_parts 
     go Less other more = IsPermutation-trans _ _ _ (swapped new r rows) (IsPermutation-cons r _ _ more)
     go Equal other more = cc
     go Greater other more = IsPermutation-refl _
-
-pub put_one : (new : Row) (rows : List Row) → are_fresh rows (new ∷ []) ≡ true → IsPermutation (new ∷ rows) (put_row new rows)
-put_one new rows fresh = put_free new rows (not-true _ (and_parts _ _ fresh).0)

@@ -1,15 +1,15 @@
 -- How the records follow the writes.
-use Rattle.std.proofs.Common.{◌≡◌, ◌≢◌, inl, inr, ℕ, ◌==◌, List, [], ◌∷◌, map, filter, Bool, true, not, sym, ap, subst, ◌∙◌, IsPermutation, eqb, eqb-true, eq-eqb}
+use Rattle.std.proofs.Common.{◌≡◌, ◌≢◌, inl, inr, ℕ, ◌==◌, List, [], ◌∷◌, map, filter, Bool, true, false, not, sym, ap, subst, ◌∙◌, IsPermutation, eqb, eqb-true, eq-eqb}
 use Rattle.std.specs.List.{AllByRecursion}
 use Rattle.std.proofs.lemmas.Bool.{and_parts, cases_Bool, eqb-false, not-true}
 use Rattle.std.proofs.lemmas.List.Sorted.{IsPermutation-map, IsPermutation-sym, IsPermutation-cons, IsPermutation-trans}
-use Rattle.ci_store.specs.Prelude.{Row, Table, Schema, Trees, Database, Has, are_fresh, have_rowids, IsShaped, places, image, has_key, without, Holds, HoldsAll, are_apart}
+use Rattle.ci_store.specs.Prelude.{Row, Table, Schema, Trees, Database, Has, is_taken, are_fresh, have_rowids, IsShaped, places, image, has_key, without, Holds, HoldsAll, are_apart}
 use Rattle.sqlite.specs.Tree.{put_row}
 use Rattle.sqlite_rules.proofs.ListLemmas.{all_has, all_from, test_has}
 use Rattle.sqlite_trees.specs.declared.store.Shape.TheVariants as shape
 use Rattle.sqlite_trees.proofs.TreeLemmas.{IsShaped-filter, IsShaped-put_row}
 use Rattle.sqlite_trees.proofs.ListLemmas.{IsPermutation-filter, filter-map, filter_same}
-use Rattle.ci_store.proofs.Rows.{put_one}
+use Rattle.ci_store.proofs.Rows.{put_free}
 use Rattle.ci_store.proofs.Writes.{Sets}
 
 -- ---- one table
@@ -30,13 +30,15 @@ removed table key p records old new tests held is =
       same = subst (λ rows. IsPermutation (map (image (places table)) rows) (without key records)) (sym is) (images_without (places table) key p (old table.tree) records tests held.same);
     }
 
+pub one_more : (at : List ℕ) (new_row : Row) (rows records : List Row) → IsPermutation (map (image at) rows) records → is_taken rows new_row ≡ false → IsPermutation (map (image at) (put_row new_row rows)) (image at new_row ∷ records)
+one_more at new_row rows records same free = IsPermutation-trans _ _ _ (IsPermutation-sym _ _ (IsPermutation-map (image at) _ _ (put_free new_row rows free))) (IsPermutation-cons _ _ _ same)
+
 pub added : (table : Table) (new_row : Row) (rows records : List Row) (new : Trees) → IsShaped shape.Table rows → IsPermutation (map (image (places table)) rows) records
     → are_fresh rows (new_row ∷ []) ≡ true → have_rowids (new_row ∷ []) ≡ true → new table.tree ≡ put_row new_row rows → Holds table (image (places table) new_row ∷ records) new
 added table new_row rows records new shaped same fresh keyed is =
     record {
       shaped = subst (IsShaped shape.Table) (sym is) (IsShaped-put_row new_row rows (and_parts _ _ keyed).0 shaped);
-      same = subst (λ rows. IsPermutation (map (image (places table)) rows) (image (places table) new_row ∷ records)) (sym is)
-          (IsPermutation-trans _ _ _ (IsPermutation-sym _ _ (IsPermutation-map (image (places table)) _ _ (put_one new_row rows fresh))) (IsPermutation-cons _ _ _ same));
+      same = subst (λ rows. IsPermutation (map (image (places table)) rows) (image (places table) new_row ∷ records)) (sym is) (one_more (places table) new_row rows records same (not-true _ (and_parts _ _ fresh).0));
     }
 
 -- ---- each table

@@ -3,12 +3,12 @@ use Rattle.std.proofs.Common.{◌≡◌, ◌≢◌, ◌⊎◌, inl, inr, ℕ, �
 use Rattle.std.specs.List.{AllByRecursion}
 use Rattle.std.proofs.lemmas.List.Sorted.{IsPermutation-map, IsPermutation-sym, length_permutation}
 use Rattle.ci_store.specs.Prelude.{Row, Term, col, eval_all, Table, Schema, Values, Insert, Update, Delete, Chosen, Above, Given, Trees, Database, value_rows, Tally, Does, AtPlace}
-use Rattle.ci_store.specs.Prelude.{OnRows, Part, Written, Task, stamped, mode_of, Edit, edit_of, edited, taken_by, left_by, with_rowid, Program, Error, cast_row, Applies}
+use Rattle.ci_store.specs.Prelude.{OnRows, Part, Written, Task, stamped, mode_of, Edit, edit_of, edited, taken_by, left_by, Program, Error, cast_row, Applies}
 use Rattle.ci_store.specs.Prelude.{are_fresh, have_rowids, works, ids_of, Enforced, IsShaped}
 use Rattle.sqlite.specs.Command.{Command}
 use Rattle.sqlite.specs.Tree.{rowid, put_row}
 use Rattle.sqlite.specs.State.{State, Writes}
-use Rattle.sqlite.specs.Edit.{id_in}
+use Rattle.sqlite.specs.Edit.{id_in, put_all}
 use Rattle.sqlite_rules.specs.Action.{Writes as Makes}
 use Rattle.sqlite_trees.specs.declared.store.Shape.TheVariants as shape
 use Rattle.sqlite.proofs.Callers.{one_step, one_permutation}
@@ -169,17 +169,19 @@ module _ (schema : Schema) (at : ℕ) (table : Table) (there : slice_get schema.
   chosen true is db top rows next h = cc
   chosen false is db top rows next h = h
 
-  -- what an INSERT of one row makes
-  pub record Inserted (source : Row) : Type 0 where
-    pub new_row : Row
-    pub row_is : new_row ≡ with_rowid Chosen (old.now.trees table.tree) (cast_row table source)
-    pub goal : Goal (put_row new_row (old.now.trees table.tree))
-    pub fresh : are_fresh (old.now.trees table.tree) (new_row ∷ []) ≡ true
-    pub keyed : have_rowids (new_row ∷ []) ≡ true
+  -- the rows that an INSERT adds
+  abbrev pub news : List Row → List Row
+  news sources = (edit_of old.now.trees table [] Chosen 0 sources).news
 
-  pub inserts : (terms : List Term) (width : ℕ) (source : Row) → Writes old new None (Insert at (Values terms width)) text params count → table.is_counted ≡ false → table.stamps.terms ≡ []
-      → value_rows params width (length terms / width) terms ≡ source ∷ [] → ((a : Row) → works schema Enforced 0 table.tree [] (a ∷ []) ≡ []) → Inserted source
-  inserts terms width source w uncounted unstamped given alone =
+  -- what an INSERT makes
+  pub record Inserted (sources : List Row) : Type 0 where
+    pub goal : Goal (put_all (old.now.trees table.tree) (news sources))
+    pub fresh : are_fresh (old.now.trees table.tree) (news sources) ≡ true
+    pub keyed : have_rowids (news sources) ≡ true
+
+  pub inserts : (terms : List Term) (width : ℕ) (sources : List Row) → Writes old new None (Insert at (Values terms width)) text params count → table.is_counted ≡ false → table.stamps.terms ≡ []
+      → value_rows params width (length terms / width) terms ≡ sources → works schema Enforced 0 table.tree [] (news sources) ≡ [] → Inserted sources
+  inserts terms width sources w uncounted unstamped given idle =
       let db = old.now.trees in
       let c : Command = Insert at (Values terms width) in
       let ran : DoesTo c (Ok (w.tally, new.now)) = on_rows c _ (subst (λ s. Does old.step_limit (mode_of old) params (record old.now { schema = s }) text None c (Ok (w.tally, new.now))) has w.changed) in
@@ -193,18 +195,11 @@ module _ (schema : Schema) (at : ℕ) (table : Table) (there : slice_get schema.
       let mid : Trees = counted.0 in
       let same : next.0 ≡ mid = same_value (uncounted_is _ _ table.is_counted _ uncounted next.1) in
       let stamps : stamped table params ≡ params = ap (λ (t : List Term). params ++ eval_all t (drop (length params - length table.stamps.formats) params ∷ [])) unstamped ∙ append-nil params in
-      let is : rows ≡ source ∷ [] = sourced.1.1 ∙ ap (λ p. value_rows p width (length terms / width) terms) stamps ∙ given in
+      let is : rows ≡ sources = sourced.1.1 ∙ ap (λ p. value_rows p width (length terms / width) terms) stamps ∙ given in
       let made = chosen table.is_counted uncounted db _ rows mid counted.1 in
       let put = subst (λ rows. Makes schema Enforced db (edit_of db table [] Chosen 0 rows) (Ok mid)) is made in
-      let edit = edit_of db table [] Chosen 0 (source ∷ []) in
-      let step : Applies schema Enforced db edit mid = one_step schema Enforced db mid edit (alone (with_rowid Chosen (db table.tree) (cast_row table source))) put in
-      let last = same_value next.2 in
-      let now : new.now ≡ record { schema = schema; trees = mid } =
-      ap (λ (p : Tally × Database). p.1) ended ∙ ap (λ (it : Written). record { schema = schema; trees = it.trees }) last ∙ ap (λ (t : Trees). record { schema = schema; trees = t }) same in
-      record {
-        new_row = with_rowid Chosen (db table.tree) (cast_row table source);
-        row_is = refl;
-        goal = sets edit mid _ refl step refl now;
-        fresh = step.fresh;
-        keyed = step.keyed;
-      }
+      let edit = edit_of db table [] Chosen 0 sources in
+      let step : Applies schema Enforced db edit mid = one_step schema Enforced db mid edit idle put in
+      let last : done.0.trees ≡ next.0 = ap (λ (it : Written). it.trees) (same_value next.2) in
+      let now : new.now ≡ record { schema = schema; trees = mid } = ap (λ (p : Tally × Database). p.1) ended ∙ ap (λ (t : Trees). record { schema = schema; trees = t }) (last ∙ same) in
+      record { goal = sets edit mid _ refl step refl now; fresh = step.fresh; keyed = step.keyed }

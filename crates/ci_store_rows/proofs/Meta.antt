@@ -28,7 +28,7 @@ gives key num = record {
   updated = λ old. λ i. Text key ∷ cast_int (pos num) i ∷ [];
   source = refl;
   inserted = λ rows. unnumbered (is_null (cast Integer Null)) _ _ _ _ (image (places meta)) (λ v. refl) ∙ (λ i. Text key ∷ cast_int (pos num) i ∷ []);
-  absent = λ rows new_row db shaped is keyed fresh put sound. absent_unique the_schema meta meta_index_1 (inl refl) (inl refl) refl rows new_row db _ (λ r. agrees r new_row key num is) shaped keyed fresh put sound;
+  absent = λ rows new_row news db shaped is keyed fresh put sound. absent_unique the_schema meta meta_index_1 (inl refl) (inl refl) refl rows new_row news db _ (λ r. agrees r new_row key num is) shaped keyed fresh put sound;
 }
 
 moved : (c : Counter) (n : ℕ) (next : Numbers) → IsPermutation (meta_row (counter_key c) n ∷ without (Text (counter_key c) ∷ []) (meta_rows next)) (meta_rows (with_next c n next))

@@ -4,11 +4,11 @@ use Rattle.ci_store.specs.Prelude.{is_within, needs_within, Need, Record, Key, V
 use Rattle.sqlite_rules.specs.Action.{work_by, deed_for}
 use Rattle.sqlite_schema.specs.Rules.{parent_key}
 use Rattle.std.specs.List.{filter_map}
-use Rattle.ci_store_rows.proofs.Several.{all_put, IsIdle, GivesEach, MeansSeveral, put_several}
+use Rattle.ci_store_rows.proofs.Several.{all_put, IsIdle, GivesEach, put_several}
 use Rattle.ci_store_rows.specs.Prelude.{UPDATE_NEED, INSERT_NEED, INSERT_NEEDS, DELETE_NEED, DELETE_NEEDS, SELECT_NEEDS_OF, SELECT_NEEDS_ON, SELECT_NEEDS_WITHIN, the_schema, need}
 use Rattle.ci_store_rows.specs.Prelude.{need_index_1, number, need_row, rows_by_tree, Stands, IsAt, ShowsRecords, in_state, RemovesUnreferred}
 use Rattle.ci_store_rows.proofs.Words.{◌≡◌, ◌∙◌, ℕ, pos, List, [], ◌∷◌, map, take, drop, true, ◌&&◌, is_eq, refl, sym, nat_cmp, ordering_then, Binary, IsPlain}
-use Rattle.ci_store_rows.proofs.Words.{ascending_weaker, ascending-filter, no_limit, MeansPut, cast_int, equal_int, compares, rules, zero, suc, length, flat_map, subst, has_got, GivesRecord, Bool, false, ◌==◌}
+use Rattle.ci_store_rows.proofs.Words.{ascending_weaker, ascending-filter, no_limit, MeansPut, cast_int, equal_int, compares, rules, zero, suc, length, flat_map, subst, GivesRecord, MeansInsert, Bool, false, ◌==◌}
 use Rattle.ci_store_rows.proofs.OneList.{alike_but}
 use Rattle.ci_store_rows.proofs.Lists.{by_two as in_two_parts}
 use Rattle.ci_store_rows.proofs.Records.{is, at_least, at_most, both_equal, same_number, finds_within}
@@ -75,7 +75,7 @@ abbrev pairs_from : ℕ → ℕ → List Term
 pairs_from at zero = []
 pairs_from at (suc count) = lit Null ∷ col 0 at ∷ col 0 (suc at) ∷ pairs_from (suc (suc at)) count
 
-pub several : MeansSeveral 8 need INSERT_NEEDS.now (pairs_from 0 16) 3
+pub several : MeansInsert the_schema 8 INSERT_NEEDS.now (pairs_from 0 16) 3
 unfolding understood everything
 several = record { is = refl; plain = (refl, refl) }
 
@@ -89,13 +89,9 @@ idle news = idle_if (length news == 0)
 
 each : GivesEach need need_row need_cmp tests (col 1 0 ∷ cols) (lit Null ∷ cols)
 each = record {
-  index = need_index_1;
-  indexed = has_got the_schema.indexes 8 need_index_1 refl;
-  guarded = refl;
   key = λ n. key_of n.job n.pred;
   same_key = λ n. same_key n.job n.pred;
   gives = gives;
-  agreed = λ n r new_row is. agrees r new_row _ _ _ _ is;
 }
 
 next_value : (params : Row) (at : ℕ) (v : Value) (rest : Row) → drop at params ≡ v ∷ rest → (column params at ≡ v) × (drop (suc at) params ≡ rest)

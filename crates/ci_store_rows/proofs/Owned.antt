@@ -50,8 +50,8 @@ gives_keyed at table there place index indexed guarded cols key params tested ag
   updated = λ r. ap (image (places table)) (kept r) ∙ shown _;
   source = source;
   inserted = λ rows. ap (λ c. image (places table) (with_rowid Chosen rows c)) made ∙ unnumbered (is_null (cast Integer Null)) _ _ (cells_of table cols params) params (image (places table)) shown;
-  absent = λ rows new_row db shaped is keyed fresh put sound.
-      absent_unique the_schema table index (has_got the_schema.tables at table there) (has_got the_schema.indexes place index indexed) guarded rows new_row db _ (λ r. agreed r new_row is) shaped keyed fresh put sound;
+  absent = λ rows new_row news db shaped is keyed fresh put sound.
+      absent_unique the_schema table index (has_got the_schema.tables at table there) (has_got the_schema.indexes place index indexed) guarded rows new_row news db _ (λ r. agreed r new_row is) shaped keyed fresh put sound;
 }
 
 -- what the text of a removal means, of a table to which no other refers

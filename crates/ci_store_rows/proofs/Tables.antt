@@ -125,8 +125,8 @@ module _ {A : Type 0} (kind : Kind A) {id : A → ℕ} (numbers : Numbered kind 
     updated = λ r. ap (image (places kind.table)) (made (r ∷ [])) ∙ ap (λ v. image (places kind.table) (v ∷ cells_of kind.table (kind.values x))) (cast_int (pos (id x))) ∙ shown;
     source = source;
     inserted = λ rows. ap (λ c. image (places kind.table) (with_rowid Chosen rows c)) (made []) ∙ ap (image (places kind.table)) (numbered rows (pos (id x)) _) ∙ shown;
-    absent = λ rows new_row db shaped is keyed fresh put sound.
-        absent_rowid rows new_row (pos (id x)) _ compared shaped (sym (numbers.place new_row) ∙ ap (λ image. column image 0) is ∙ numbers.first x) fresh;
+    absent = λ rows new_row news db shaped is keyed fresh put sound.
+        absent_rowid rows new_row news (pos (id x)) _ compared shaped (sym (numbers.place new_row) ∙ ap (λ image. column image 0) is ∙ numbers.first x) fresh;
   }
 
   pub put_numbered : {cmp : A → A → Ordering} {holding : List A → Kept → Kept} {Also : A → Type 0} (changing : Changing kind cmp holding Also)

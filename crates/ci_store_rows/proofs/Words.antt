@@ -1,6 +1,6 @@
 -- The words that the proofs of the tables name, of this crate and of those below it, in one place.
 pub use Rattle.ci_store.proofs.Absent.{absent_rowid, absent_unique}
-pub use Rattle.ci_store.proofs.Puts.{GivesRecord, MeansPut, MeansRemove, inserts_one, puts, removes, updates_one}
+pub use Rattle.ci_store.proofs.Puts.{GivesRecord, MeansInsert, MeansPut, MeansRemove, inserts_one, inserts_several, new_rows, put_each, puts, removes, source, updates_one}
 pub use Rattle.ci_store.proofs.Queries.{Answered, answered, answered_to, count_of, map_map, no_limit, picks, query, shows}
 pub use Rattle.ci_store.proofs.Scalars.{cast_int, cast_null, cast_text, compares, compares_above, compares_at_least, compares_at_most, equal_int, equal_text, int_nat, on_ok}
 pub use Rattle.ci_store.proofs.Selects.{MeansSelect, MeansSelectTo, selects, shown_same, shows_none}

@@ -1,28 +1,17 @@
-use Rattle.std.proofs.Common.{◌+◌, drop, sym, subst, ap, ◌∙◌, map, [], ◌∷◌}
-use Rattle.std.proofs.lemmas.List.{map-append}
-use Rattle.ci_config.specs.Prelude.{each, name_in, list_of, value_view, values_view, text_view, texts_view, IsWithin}
-use Rattle.ci_config_reader.proofs.Telling.{each-fails, each-next}
-use Rattle.ci_config_reader.proofs.Trees.{step, count-is}
+use Rattle.ci_config.specs.Prelude.{name_in, list_of, value_view, text_view, texts_view}
+use Rattle.ci_config_reader.proofs.Telling.{item-fails, item-next}
+use Rattle.ci_config_reader.proofs.Trees.{count-is}
 use Rattle.ci_config_reader.proofs.value.names_of.Goals as goal
 
 pub returns-in-Err : goal.returns-in-Err
 returns-in-Err c =
-    let vs = c.in_ok-values.values.now in
-    let i = c.loop-value.value-index in
-    let x = c.value-item.result in
-    let done = texts_view c.loop-value.names in
-    let e = c.in-Err.fault in
-    each-fails (name_in c.args.limit) done (value_view x) (values_view (drop (i + 1) vs)) (values_view (drop i vs)) (values_view vs) (list_of (value_view c.args.tree.now)) e c.within.result
-    (step value_view vs i x c.loop-value-test.true c.value-item.is) c.loop-value.invariant c.in_ok-values.ensures
-    (subst (λ n. IsWithin n e c.within.result) (sym (count-is text_view c.loop-value.names c.len-in-Err.result c.len-in-Err.ensures)) c.within.ensures)
-    (c.in-Err.ensures done (count-is text_view c.loop-value.names c.len.result c.len.ensures))
+    let done = c.loop-value.names in
+    item-fails value_view text_view (name_in c.args.limit) c.in_ok-values.values.now c.loop-value.value-index c.value-item.result c.loop-value-test.true c.value-item.is done c.loop-value.invariant
+    (list_of (value_view c.args.tree.now)) c.in-Err.fault c.within.result c.len-in-Err.result c.in_ok-values.ensures c.len-in-Err.ensures c.within.ensures
+    (c.in-Err.ensures (texts_view done) (count-is text_view done c.len.result c.len.ensures))
 
 pub loop-value-preserved : goal.loop-value-preserved
 loop-value-preserved c =
-    let vs = c.in_ok-values.values.now in
-    let i = c.loop-value.value-index in
-    let x = c.value-item.result in
-    let done = texts_view c.loop-value.names in
-    each-next (name_in c.args.limit) done (texts_view c.push.new.self) (value_view x) (values_view (drop (i + 1) vs)) (values_view (drop i vs)) (text_view c.in-Ok.name) (each (name_in c.args.limit) [] (values_view vs))
-    (step value_view vs i x c.loop-value-test.true c.value-item.is) c.loop-value.invariant (c.in-Ok.ensures done (count-is text_view c.loop-value.names c.len.result c.len.ensures))
-    (ap (map text_view) c.in_ok-push-in-Ok.ensures.items ∙ map-append text_view c.loop-value.names.items (c.in-Ok.name ∷ []))
+    let done = c.loop-value.names in
+    item-next value_view text_view (name_in c.args.limit) c.in_ok-values.values.now c.loop-value.value-index c.value-item.result c.loop-value-test.true c.value-item.is done c.loop-value.invariant
+    c.in-Ok.name c.push.new.self (c.in-Ok.ensures (texts_view done) (count-is text_view done c.len.result c.len.ensures)) c.in_ok-push-in-Ok.ensures.items
