@@ -3,12 +3,12 @@ use Rattle.std.proofs.Common.{◌≡◌, ℕ, ◌≤◌, Bool, List, Option, Som
 use Rattle.ci_machine_steps.specs.Prelude.{Pending, is_status, BoardRow, OldestFirst, NewestReadyFirst, Job, RowChange, IndexChange, State, Kept, cleared, written, row_or_none, job_at, pipeline_at}
 use Rattle.ci_store.specs.Prelude.{row_at}
 use Rattle.ci_memory_queue.specs.declared.queue.Class.{Class}
+use Rattle.ci_memory_queue.specs.declared.queue.Queue.{Queue}
 use Rattle.ci_memory_queue.specs.declared.lines.Line.{Line}
+use Rattle.ci_memory_queue.specs.declared.lines.Lines.{Lines}
 use Rattle.ci_memory_queue.specs.declared.lines.Place.{Place}
 use Rattle.ci_memory_queue.specs.Covers.{asked_by, IsSorted, Covers, IsRight}
 use Rattle.ci_memory_queue.specs.LineCovers as line
-use Rattle.ci_memory_queue.specs.Known.{Known}
-use Rattle.ci_memory_queue.specs.KnownLines.{Known as KnownLines}
 use Rattle.ci_memory_queue.specs.Notes.{Noted, noted}
 use Rattle.ci_memory_queue.specs.Places.{place_by, counts}
 use Rattle.ci_memory_queue.proofs.Noting.{covers_written}
@@ -27,16 +27,12 @@ sorted_stays classes s t board newest n job pipelines w = record {
   pipeline = subst (λ (o : Option Job). IfSome o (λ j. j.pipeline ≤ newest)) (sym job) w.pipeline;
 }
 
-abbrev pub known : List Class → Noted → Known
-known classes q = record { classes = classes; fresh = q.fresh; newest = q.newest; newest_pipeline = q.newest_pipeline }
-
--- what was right before, by its parts
-pub right_after : (o : Option Known) (q : Known) (classes : List Class) (before after : Noted) (changes : List RowChange) (rows : List BoardRow) (indexes : List IndexChange) (jobs : List ℕ) (k : Kept)
-    → o ≡ Some q → known classes before ≡ q → noted NewestReadyFirst changes rows before ≡ Some after
-    → IsRight o k → Covers (known classes after) (written changes rows indexes (cleared jobs k)).state (written changes rows indexes (cleared jobs k)).board
-right_after o q classes before after changes rows indexes jobs k is parts notes right =
-    covers_written NewestReadyFirst says_pending (λ r. refl) refl (λ s board newest n. IsSorted s classes newest n) (sorted_stays classes) (λ s board more newest n row w. w)
-    changes rows indexes jobs k before after notes (subst (λ (x : Known). Covers x k.state k.board) (sym parts) (subst (λ (p : Option Known). IsRight p k) is right))
+-- what was right before is right after
+pub right_after : (o : Option Queue) (q : Queue) (after : Noted) (changes : List RowChange) (rows : List BoardRow) (indexes : List IndexChange) (jobs : List ℕ) (k : Kept)
+    → o ≡ Some q → noted NewestReadyFirst changes rows q.notes ≡ Some after → IsRight o k → Covers q.classes.items after (written changes rows indexes (cleared jobs k)).state (written changes rows indexes (cleared jobs k)).board
+right_after o q after changes rows indexes jobs k is notes right =
+    covers_written NewestReadyFirst says_pending (λ r. refl) refl (λ s board newest n. IsSorted s q.classes.items newest n) (sorted_stays q.classes.items) (λ s board more newest n row w. w)
+    changes rows indexes jobs k q.notes after notes (subst (λ (p : Option Queue). IsRight p k) is right)
 
 -- ---- the jobs that wait
 
@@ -63,13 +59,8 @@ lines_stay_by_row lines s board more newest n row w = record {
   in_turn = subst (λ (ready : Bool). line.IsInTurn lines w.place ready n) (ap (counts NewestReadyFirst) (sym row)) w.in_turn;
 }
 
-abbrev pub known_lines : List Line → Noted → KnownLines
-known_lines lines q = record { lines = lines; fresh = q.fresh; newest = q.newest; newest_pipeline = q.newest_pipeline }
-
--- what was right before, by its parts
-pub lines_right_after : (o : Option KnownLines) (q : KnownLines) (lines : List Line) (before after : Noted) (changes : List RowChange) (rows : List BoardRow) (indexes : List IndexChange) (jobs : List ℕ) (k : Kept)
-    → o ≡ Some q → known_lines lines before ≡ q → noted OldestFirst changes rows before ≡ Some after
-    → line.IsRight o k → line.Covers (known_lines lines after) (written changes rows indexes (cleared jobs k)).state (written changes rows indexes (cleared jobs k)).board
-lines_right_after o q lines before after changes rows indexes jobs k is parts notes right =
-    covers_written OldestFirst (counts OldestFirst) (λ r. refl) refl (λ s board newest n. line.IsSorted s board lines newest n) (lines_stay lines) (lines_stay_by_row lines)
-    changes rows indexes jobs k before after notes (subst (λ (x : KnownLines). line.Covers x k.state k.board) (sym parts) (subst (λ (p : Option KnownLines). line.IsRight p k) is right))
+pub lines_right_after : (o : Option Lines) (q : Lines) (after : Noted) (changes : List RowChange) (rows : List BoardRow) (indexes : List IndexChange) (jobs : List ℕ) (k : Kept)
+    → o ≡ Some q → noted OldestFirst changes rows q.notes ≡ Some after → line.IsRight o k → line.Covers q.lines.items after (written changes rows indexes (cleared jobs k)).state (written changes rows indexes (cleared jobs k)).board
+lines_right_after o q after changes rows indexes jobs k is notes right =
+    covers_written OldestFirst (counts OldestFirst) (λ r. refl) refl (λ s board newest n. line.IsSorted s board q.lines.items newest n) (lines_stay q.lines.items) (lines_stay_by_row q.lines.items)
+    changes rows indexes jobs k q.notes after notes (subst (λ (p : Option Lines). line.IsRight p k) is right)

@@ -15,7 +15,6 @@ use Rattle.ci_memory_queue.specs.LineCovers.{line_of, IsInLine, IsInTurn, jobs_o
 use Rattle.ci_memory_queue.specs.First.{IsInGroup, IsFirst}
 use Rattle.ci_memory_queue.specs.Notes.{Noted}
 use Rattle.ci_memory_queue.proofs.Filling.{has_with}
-use Rattle.ci_memory_queue.proofs.Commits.{known_lines}
 use Rattle.ci_memory_queue.proofs.LineTurns.{counts_all, is_turn}
 use Rattle.ci_memory_queue.proofs.Sorts.{all_sorted}
 
@@ -35,7 +34,7 @@ waits_among board n jobs created pending waits = of (row_at n board) refl waits
 
 -- all jobs that are created, and then those that are pending, are all that wait
 pub all_noted : (s : State) (board : List BoardRow) (lines : List Line) (none jobs more : List ℕ) (q : Noted) → jobs ≡ none ++ map by_job (rows_with Created board) → more ≡ jobs ++ map by_job (rows_with Pending board)
-    → q.fresh ≡ more → ((n : ℕ) → Contains more n → n ≤ q.newest) → Covers (known_lines lines q) s board
+    → q.fresh ≡ more → ((n : ℕ) → Contains more n → n ≤ q.newest) → Covers lines q s board
 all_noted s board lines none jobs more q created pending fresh least = λ n waits.
     let has : Has n more = waits_among board n more
     (λ h. subst (Has n) (sym pending) (has_left n jobs (map by_job (rows_with Pending board)) (subst (Has n) (sym created) (has_right n none (map by_job (rows_with Created board)) h))))
@@ -68,14 +67,14 @@ in_jobs order board job None counted has = absurd has
 in_jobs OldestFirst board job (Some l) counted has = has.0
 in_jobs NewestReadyFirst board job (Some l) counted has = has.1 counted
 
-module _ (k : Kept) (lines new : List Line) (notes : Noted) (none : notes.fresh ≡ []) (covers : Covers (known_lines lines notes) k.state k.board) (keeps : KeepsWaiting k lines new) where
+module _ (k : Kept) (lines new : List Line) (notes : Noted) (none : notes.fresh ≡ []) (covers : Covers lines notes k.state k.board) (keeps : KeepsWaiting k lines new) where
   -- all are sorted still
   still_sorted : (job : ℕ) → counts_at OldestFirst k.board job ≡ true → IsSorted k.state k.board new notes.newest_pipeline job
   still_sorted job waits =
       let w = all_sorted (counts_at OldestFirst k.board) (IsSorted k.state k.board lines) notes none covers job waits in
       record { place = w.place; placed = w.placed; pipeline = w.pipeline; in_turn = keeps job w.place waits w.placed w.in_turn }
 
-  pub still_covers : Covers (known_lines new notes) k.state k.board
+  pub still_covers : Covers new notes k.state k.board
   still_covers job waits = ((covers job waits).0, inr (still_sorted job waits))
 
   -- so all jobs of the group are in its line

@@ -14,7 +14,6 @@ use Rattle.ci_memory_queue.specs.Covers.{asked_by, asks_at, is_pending_at, IsAmo
 use Rattle.ci_memory_queue.specs.Offers.{UpTo, IsPendingOf, IsBest}
 use Rattle.ci_memory_queue.specs.Turns.{is_free_at}
 use Rattle.ci_memory_queue.specs.Notes.{Noted}
-use Rattle.ci_memory_queue.proofs.Commits.{known}
 use Rattle.ci_memory_queue.proofs.Found.{find_none}
 use Rattle.ci_memory_queue.proofs.Sorts.{all_sorted}
 use Rattle.ci_memory_queue.proofs.Waits.{mapped_from}
@@ -115,7 +114,7 @@ sorted_raised s classes more low high job raised keeps w = record { asks = w.ask
     raise None h = tt
     raise (Some j) h = let l : j.pipeline ≤ low = h in omega arith
 
-module _ (k : Kept) (classes given new : List Class) (notes : Noted) (same : given ≡ classes) (none : notes.fresh ≡ []) (covers : Covers (known classes notes) k.state k.board)
+module _ (k : Kept) (classes given new : List Class) (notes : Noted) (same : given ≡ classes) (none : notes.fresh ≡ []) (covers : Covers classes notes k.state k.board)
     (keeps : (asks : Asks) (job : ℕ) → is_pending_at k.board job ≡ true → asks_at k.state job ≡ Some asks → IsAmong given asks job → IsAmong new asks job) where
   -- so they are once others are taken out
   still_sorted : (job : ℕ) → is_pending_at k.board job ≡ true → IsSorted k.state new notes.newest_pipeline job
@@ -123,7 +122,7 @@ module _ (k : Kept) (classes given new : List Class) (notes : Noted) (same : giv
       sorted_raised k.state classes new notes.newest_pipeline notes.newest_pipeline job (omega arith) (λ asks asked w. keeps asks job pending asked (subst (λ (cs : List Class). IsAmong cs asks job) (sym same) w))
       (all_sorted (is_pending_at k.board) (IsSorted k.state classes) notes none covers job pending)
 
-  pub still_covers : Covers (known new notes) k.state k.board
+  pub still_covers : Covers new notes k.state k.board
   still_covers job pending = ((covers job pending).0, inr (still_sorted job pending))
 
   -- and the best of the classes is the offer

@@ -8,7 +8,6 @@ use Rattle.ci_machine_steps.proofs.Behind.{has_right}
 use Rattle.ci_memory_queue.specs.declared.queue.Class.{Class}
 use Rattle.ci_memory_queue.specs.Covers.{is_pending_at, Covers}
 use Rattle.ci_memory_queue.specs.Notes.{Noted}
-use Rattle.ci_memory_queue.proofs.Commits.{known}
 
 abbrev by_job : BoardRow → ℕ
 by_job r = r.job
@@ -28,7 +27,7 @@ pending_has board n = of (row_at n board) refl
 
 -- those that are pending are all that are pending
 pub pending_noted : (s : State) (board : List BoardRow) (classes : List Class) (none jobs : List ℕ) (q : Noted) → jobs ≡ none ++ map by_job (rows_with Pending board)
-    → q.fresh ≡ jobs → ((n : ℕ) → Contains jobs n → n ≤ q.newest) → Covers (known classes q) s board
+    → q.fresh ≡ jobs → ((n : ℕ) → Contains jobs n → n ≤ q.newest) → Covers classes q s board
 pending_noted s board classes none jobs q all fresh least = λ n pending.
     let noted = contains_from_has n jobs (subst (Has n) (sym all) (has_right n none (map by_job (rows_with Pending board)) (pending_has board n pending))) in
     (least n noted, inl (subst (λ (l : List ℕ). Contains l n) (sym fresh) noted))

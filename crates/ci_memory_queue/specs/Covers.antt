@@ -1,9 +1,10 @@
 -- Which pending jobs are remembered, and when that is right.
-use Rattle.std.specs.Prelude.{◌≡◌, ◌⊎◌, ◌≤◌, ℕ, Bool, true, List, Contains, Option, Some, IfSome, option_map, option_and_then}
+use Rattle.std.specs.Prelude.{◌≡◌, ◌≤◌, ℕ, Bool, List, Contains, Option, Some, IfSome, option_map, option_and_then}
 use Rattle.ci_machine_steps.specs.Prelude.{Status, is_status, BoardRow, Job, Pipeline, QueuedJob, State, Kept, status_for, job_at, pipeline_at}
 use Rattle.ci_memory_queue.specs.declared.queue.Asks.{Asks}
 use Rattle.ci_memory_queue.specs.declared.queue.Class.{Class}
-use Rattle.ci_memory_queue.specs.Known.{Known}
+use Rattle.ci_memory_queue.specs.declared.queue.Queue.{Queue}
+use Rattle.ci_memory_queue.specs.Notes.{Noted, AreKnown}
 
 -- what a job of a pipeline asks of a runner
 abbrev pub asked_by : Job → Pipeline → Asks
@@ -35,14 +36,10 @@ pub record IsSorted (s : State) (classes : List Class) (newest_pipeline job : �
   pub among : IsAmong classes asks job
   pub pipeline : IfSome (job_at s job) (λ j. j.pipeline ≤ newest_pipeline)
 
--- the job is noted as fresh, or in a class by what it asks
-abbrev pub IsKnown : State → Known → ℕ → Type 0
-IsKnown s q job = Contains q.fresh job ⊎ IsSorted s q.classes q.newest_pipeline job
-
--- each pending job is known, and none of them has a greater number than the newest
-abbrev pub Covers : Known → State → List BoardRow → Type 0
-Covers q s board = (job : ℕ) → is_pending_at board job ≡ true → (job ≤ q.newest) × IsKnown s q job
+-- each pending job is noted as fresh or in a class by what it asks, and none of them has a greater number than the newest
+abbrev pub Covers : List Class → Noted → State → List BoardRow → Type 0
+Covers classes notes s board = AreKnown (is_pending_at board) (IsSorted s classes) notes
 
 -- where a queue is remembered, it covers what is kept; nothing remembered is right for all
-abbrev pub IsRight : Option Known → Kept → Type 0
-IsRight queue k = IfSome queue (λ q. Covers q k.state k.board)
+abbrev pub IsRight : Option Queue → Kept → Type 0
+IsRight queue k = IfSome queue (λ q. Covers q.classes.items q.notes k.state k.board)

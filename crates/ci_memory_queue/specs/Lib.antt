@@ -1,9 +1,7 @@
-pub mod Known
 pub mod Notes
 pub mod Covers
 pub mod Turns
 pub mod Offers
-pub mod KnownLines
 pub mod Places
 pub mod LineCovers
 pub mod First

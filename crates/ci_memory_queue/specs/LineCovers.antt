@@ -1,11 +1,12 @@
 -- Which jobs that wait are remembered, and when that is right. A job waits where it is created or pending: where it counts in
 -- `oldest_first`. It is ready where it is pending: where it counts in `newest_ready_first`.
-use Rattle.std.specs.Prelude.{◌≡◌, ◌⊎◌, ◌≤◌, ℕ, Bool, true, ◌&&◌, ◌==◌, List, [], find, Contains, Option, Some, None, IfSome}
+use Rattle.std.specs.Prelude.{◌≡◌, ◌≤◌, ℕ, Bool, true, ◌&&◌, ◌==◌, List, [], find, Contains, Option, Some, None, IfSome}
 use Rattle.std.specs.Str.{bytes_eq}
 use Rattle.ci_machine_steps.specs.Prelude.{BoardRow, GroupOrder, OldestFirst, NewestReadyFirst, State, Kept}
 use Rattle.ci_memory_queue.specs.declared.lines.Line.{Line}
 use Rattle.ci_memory_queue.specs.declared.lines.Place.{Place}
-use Rattle.ci_memory_queue.specs.KnownLines.{Known}
+use Rattle.ci_memory_queue.specs.declared.lines.Lines.{Lines}
+use Rattle.ci_memory_queue.specs.Notes.{Noted, AreKnown}
 use Rattle.ci_memory_queue.specs.Places.{place_at, counts_at}
 
 -- ---- lines
@@ -49,17 +50,13 @@ pub record IsSorted (s : State) (board : List BoardRow) (lines : List Line) (new
   pub pipeline : place.pipeline ≤ newest_pipeline
   pub in_turn : IsInTurn lines place (counts_at NewestReadyFirst board job) job
 
--- the job is noted as fresh, or is sorted
-abbrev pub IsKnown : State → List BoardRow → Known → ℕ → Type 0
-IsKnown s board q job = Contains q.fresh job ⊎ IsSorted s board q.lines q.newest_pipeline job
-
--- each job that waits is known, and none of them has a greater number than the newest
-abbrev pub Covers : Known → State → List BoardRow → Type 0
-Covers q s board = (job : ℕ) → counts_at OldestFirst board job ≡ true → (job ≤ q.newest) × IsKnown s board q job
+-- each job that waits is noted as fresh or is sorted, and none of them has a greater number than the newest
+abbrev pub Covers : List Line → Noted → State → List BoardRow → Type 0
+Covers lines notes s board = AreKnown (counts_at OldestFirst board) (IsSorted s board lines) notes
 
 -- where lines are remembered, they cover what is kept; nothing remembered is right for all
-abbrev pub IsRight : Option Known → Kept → Type 0
-IsRight lines k = IfSome lines (λ q. Covers q k.state k.board)
+abbrev pub IsRight : Option Lines → Kept → Type 0
+IsRight lines k = IfSome lines (λ q. Covers q.lines.items q.notes k.state k.board)
 
 -- jobs that wait and are in line for their groups are so still
 abbrev pub KeepsWaiting : Kept → List Line → List Line → Type 0

@@ -15,7 +15,7 @@ use std::alloc::{AllocError, Global};
 
 /// All pending jobs. Errors: the store's, or memory was refused.
 pub fn filled<T: Store>(alloc: Global, store: &mut T) -> Result<Queue, StoreFault>
-    ensures { LoadsBy T.honest T.holds T.leaves store.old store.new result (λ k q. Covers q k.state k.board) }
+    ensures { LoadsBy T.honest T.holds T.leaves store.old store.new result (λ k q. Covers q.classes.items q.notes k.state k.board) }
 {
     let mut fresh = Vec::new(alloc);
     note_with(store, &mut fresh, Status::Pending)?;

@@ -16,7 +16,6 @@ use ci_machine::change::RowChange;
 use ci_machine::records::{BoardRow, GroupOrder};
 use ci_machine::text::Text;
 use std::collections::BTreeSet;
-use std::marker::Model;
 
 /// Where a job stands.
 #[derive(Drop)]
@@ -47,14 +46,6 @@ pub struct Lines {
     pub(crate) lines: Vec<Line>,
     /// Those that are in no line yet are fresh.
     pub(crate) notes: Notes,
-}
-
-impl Model for Lines {
-    ghost use Rattle.ci_memory_queue.specs.KnownLines.{Known};
-
-    ghost Value = { Known };
-
-    ghost view = { λ l. record { lines = l.lines.items; fresh = l.notes.fresh; newest = l.notes.newest; newest_pipeline = l.notes.newest_pipeline } };
 }
 
 /// The lines after a commit's changes of records and its rows: jobs that may have another group and rows of jobs that wait are noted. They

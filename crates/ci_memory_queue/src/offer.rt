@@ -41,7 +41,7 @@ fn known_or_filled<T: Store>(
     store: &mut T,
     queue: Option<Queue>,
 ) -> Result<Queue, StoreFault>
-    ensures { LoadsBy T.honest T.holds T.leaves store.old store.new result (λ k q. IsRight queue k → Covers q k.state k.board) }
+    ensures { LoadsBy T.honest T.holds T.leaves store.old store.new result (λ k q. IsRight queue k → Covers q.classes.items q.notes k.state k.board) }
 {
     match queue {
         Some(queue) => Ok(queue),

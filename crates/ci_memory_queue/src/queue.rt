@@ -9,7 +9,6 @@ use ci_machine::change::RowChange;
 use ci_machine::records::{BoardRow, GroupOrder};
 use ci_machine::text::{Text, Texts};
 use std::collections::BTreeSet;
-use std::marker::Model;
 
 /// What a job asks of a runner.
 #[derive(Drop)]
@@ -36,14 +35,6 @@ pub struct Queue {
     pub(crate) classes: Vec<Class>,
     /// Those that are in no class yet are fresh.
     pub(crate) notes: Notes,
-}
-
-impl Model for Queue {
-    ghost use Rattle.ci_memory_queue.specs.Known.{Known};
-
-    ghost Value = { Known };
-
-    ghost view = { λ q. record { classes = q.classes.items; fresh = q.notes.fresh; newest = q.notes.newest; newest_pipeline = q.notes.newest_pipeline } };
 }
 
 /// The queue after a commit's changes of records and its rows: jobs that may ask something else and rows of pending jobs are noted. It is

@@ -1,6 +1,6 @@
 -- Quoted scalars that are written as they are read, and those that aren't.
 use Rattle.std.proofs.Common.{◌≡◌, ℕ, suc, ◌+◌, ◌<◌, ◌≤◌, Bool, true, false, List, [], ◌∷◌, ◌++◌, length, Option, Some, None, string_bytes, refl, sym, ◌∙◌, ap, subst}
-use Rattle.std.proofs.Common.{length-append, arith, ◌==◌, Result, Ok, Err, IfOk, IfSome, option_map}
+use Rattle.std.proofs.Common.{length-append, arith, ◌==◌, IfSome, option_map}
 use Rattle.ci_yaml_lines.specs.Prelude.{QuotedWords, quoted_words_view, Words, Lent, Owned, with_words, single, double, head_is, words_of, doubled, Between, itself, escape}
 use Rattle.ci_yaml_lines.specs.Prelude.{misused, is_lent, IsLent, LentAs, LentUpTo, LentBetween}
 use Rattle.ci_yaml_lines.specs.Scalar.{Quoted}
@@ -85,18 +85,17 @@ lent-some mark text front rest (Some q) parts is lent =
     let view : quoted_words_view q ≡ record { text = front; wrong = false; rest = rest } = cc in
     λ between e. as-lent between front q.words (append_cancel_right between front (mark ∷ rest) ((λ i. between ++ mark ∷ (sym view i).rest) ∙ sym e ∙ parts)) lent
 
-owned-ok : {E : Type 0} (mark : ℕ) (text front more : List ℕ) (o : Option Quoted) (r : Result (Option QuotedWords) E) → IsLonger more o → text ≡ front ++ more → IfOk r (λ q. option_map quoted_words_view q ≡ with_words front o)
-    → IfOk r (λ q. IfSome q (λ x. is_lent x.words ≡ false)) → IfOk r (λ q. IfSome q (λ x. LentUpTo mark text x))
-owned-ok mark text front more o (Err e) longer parts is own = tt
-owned-ok mark text front more o (Ok None) longer parts is own = tt
-owned-ok mark text front more o (Ok (Some q)) longer parts is own = λ between e. owned-at mark text front more between q.rest.now q.words q.wrong o longer parts is own e
+owned-ok : (mark : ℕ) (text front more : List ℕ) (o : Option Quoted) (r : Option QuotedWords) → IsLonger more o → text ≡ front ++ more → option_map quoted_words_view r ≡ with_words front o
+    → IfSome r (λ q. is_lent q.words ≡ false) → IfSome r (λ q. LentUpTo mark text q)
+owned-ok mark text front more o None longer parts is own = tt
+owned-ok mark text front more o (Some q) longer parts is own = λ between e. owned-at mark text front more between q.rest.now q.words q.wrong o longer parts is own e
 
-pub doubled-ok : {E : Type 0} (text front rest : List ℕ) (r : Result (Option QuotedWords) E) → text ≡ front ++ 39 ∷ rest → head_is 39 rest ≡ true
-    → IfOk r (λ o. option_map quoted_words_view o ≡ with_words front (single (39 ∷ rest))) → IfOk r (λ o. IfSome o (λ q. is_lent q.words ≡ false)) → IfOk r (λ o. IfSome o (λ q. LentUpTo 39 text q))
+pub doubled-ok : (text front rest : List ℕ) (r : Option QuotedWords) → text ≡ front ++ 39 ∷ rest → head_is 39 rest ≡ true
+    → option_map quoted_words_view r ≡ with_words front (single (39 ∷ rest)) → IfSome r (λ q. is_lent q.words ≡ false) → IfSome r (λ q. LentUpTo 39 text q)
 doubled-ok text front rest r parts head is own = owned-ok 39 text front (39 ∷ rest) (single (39 ∷ rest)) r (pair-longer rest head (single (39 ∷ rest)) refl) parts is own
 
-pub escaped-ok : {E : Type 0} (text front rest : List ℕ) (r : Result (Option QuotedWords) E) → text ≡ front ++ 92 ∷ rest
-    → IfOk r (λ o. option_map quoted_words_view o ≡ with_words front (double (92 ∷ rest))) → IfOk r (λ o. IfSome o (λ q. is_lent q.words ≡ false)) → IfOk r (λ o. IfSome o (λ q. LentUpTo 34 text q))
+pub escaped-ok : (text front rest : List ℕ) (r : Option QuotedWords) → text ≡ front ++ 92 ∷ rest
+    → option_map quoted_words_view r ≡ with_words front (double (92 ∷ rest)) → IfSome r (λ q. is_lent q.words ≡ false) → IfSome r (λ q. LentUpTo 34 text q)
 escaped-ok text front rest r parts is own = owned-ok 34 text front (92 ∷ rest) (double (92 ∷ rest)) r (slash-longer rest (double (92 ∷ rest)) refl) parts is own
 
 pub lent-of : (bs : List ℕ) (o : Option QuotedWords) (q : QuotedWords) → o ≡ Some q → IfSome o (λ x. LentBetween bs x.words x.rest.now) → LentBetween bs q.words q.rest.now

@@ -87,23 +87,11 @@ fn single<'a>(alloc: Global, text: &'a str) -> Result<Option<QuotedWords<'a>>, A
         return Ok(None);
     };
     if head_is(b'\'', rest.as_bytes()) {
-        return doubled(alloc, front, rest);
+        let mut words = String::from_str(alloc, front)?;
+        let end = add_pairs(&mut words, rest)?;
+        return Ok(owned(words, end));
     }
     Ok(lent(front, rest))
-}
-
-/// The same, where after this front and a quote the rest begins with a second quote.
-fn doubled<'a>(
-    alloc: Global,
-    front: &str,
-    rest: &'a str,
-) -> Result<Option<QuotedWords<'a>>, AllocError>
-    ensures value { IfOk result (λ q. option_map quoted_words_view q ≡ with_words front.now (single (39 ∷ rest.now))) }
-    ensures own { IfOk result (λ o. IfSome o (λ q. is_lent q.words ≡ false)) }
-{
-    let mut words = String::from_str(alloc, front)?;
-    let end = add_pairs(&mut words, rest)?;
-    Ok(owned(words, end))
 }
 
 /// Adds what a quote and this rest say: no backslash stands wrongly, and what follows, if the scalar ends. Errors: memory was refused.
@@ -173,7 +161,9 @@ fn double<'a>(alloc: Global, text: &'a str) -> Result<Option<QuotedWords<'a>>, A
         return Ok(None);
     };
     if slash {
-        return with_escapes(alloc, front, rest);
+        let mut words = String::from_str(alloc, front)?;
+        let end = add_escapes(&mut words, rest)?;
+        return Ok(owned(words, end));
     }
     Ok(lent(front, rest))
 }
@@ -191,20 +181,6 @@ fn unescape<'a>(words: &mut String, rest: &'a str) -> Result<(bool, &'a str), Al
         }
         None => Ok((true, rest)),
     }
-}
-
-/// A scalar in double quotes, where this front and a backslash come before the rest. Errors: memory was refused.
-fn with_escapes<'a>(
-    alloc: Global,
-    front: &str,
-    rest: &'a str,
-) -> Result<Option<QuotedWords<'a>>, AllocError>
-    ensures value { IfOk result (λ q. option_map quoted_words_view q ≡ with_words front.now (double (92 ∷ rest.now))) }
-    ensures own { IfOk result (λ o. IfSome o (λ q. is_lent q.words ≡ false)) }
-{
-    let mut words = String::from_str(alloc, front)?;
-    let end = add_escapes(&mut words, rest)?;
-    Ok(owned(words, end))
 }
 
 /// Adds what a backslash and this rest say: whether a backslash stands wrongly, and what follows, if the scalar ends. Errors: memory

@@ -13,7 +13,7 @@ use std::alloc::Global;
 
 /// All jobs that are created or pending. Errors: the store's, or memory was refused.
 pub fn filled<T: Store>(alloc: Global, store: &mut T) -> Result<Lines, StoreFault>
-    ensures { LoadsBy T.honest T.holds T.leaves store.old store.new result (λ k q. Covers q k.state k.board) }
+    ensures { LoadsBy T.honest T.holds T.leaves store.old store.new result (λ k q. Covers q.lines.items q.notes k.state k.board) }
 {
     let mut fresh = Vec::new(alloc);
     note_with(store, &mut fresh, Status::Created)?;

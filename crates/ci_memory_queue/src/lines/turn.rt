@@ -51,7 +51,7 @@ fn known_or_filled<T: Store>(
     store: &mut T,
     lines: Option<Lines>,
 ) -> Result<Lines, StoreFault>
-    ensures { LoadsBy T.honest T.holds T.leaves store.old store.new result (λ k q. IsRight lines k → Covers q k.state k.board) }
+    ensures { LoadsBy T.honest T.holds T.leaves store.old store.new result (λ k q. IsRight lines k → Covers q.lines.items q.notes k.state k.board) }
 {
     match lines {
         Some(lines) => Ok(lines),

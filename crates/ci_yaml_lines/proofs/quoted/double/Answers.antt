@@ -8,8 +8,8 @@ pub returns-then-slash-clause-lent : goal.returns-then-slash-clause-lent
 returns-then-slash-clause-lent c =
     let front : List ℕ = c.in-Some.front.now in
     let rest : List ℕ = c.in-Some.rest.now in
-    escaped-ok c.args.text.now front rest c.with_escapes.result (c.in-Some.ensures.parts ∙ ap (λ t. front ++ cond t 92 34 ∷ rest) c.if-slash.true)
-    c.with_escapes.ensures.value c.with_escapes.ensures.own
+    escaped-ok c.args.text.now front rest c.owned.result (c.in-Some.ensures.parts ∙ ap (λ t. front ++ cond t 92 34 ∷ rest) c.if-slash.true)
+    (c.owned.ensures.value ∙ c.in_ok-end.ensures ∙ ap (λ w. with_words w (double (92 ∷ rest))) c.in_ok-words.ensures.ok) c.owned.ensures.own
 
 pub returns : goal.returns
 returns c =

@@ -1,10 +1,9 @@
-use Rattle.std.proofs.Common.{Ok, refl, sym, subst}
+use Rattle.std.proofs.Common.{Ok, refl}
 use Rattle.ci_machine_steps.specs.Prelude.{waiting}
 use Rattle.ci_server_lookups.specs.Prelude.{IsKept, IsTurn}
 use Rattle.ci_server_lookups.proofs.Loading.{says, so, loads_both}
-use Rattle.ci_memory_queue.specs.KnownLines.{Known}
+use Rattle.ci_memory_queue.specs.declared.lines.Lines.{Lines}
 use Rattle.ci_memory_queue.specs.LineCovers.{Covers, IsRight}
-use Rattle.ci_memory_queue.proofs.Commits.{known_lines}
 use Rattle.ci_memory_queue.proofs.Covered.{still_covers, tells_turn}
 use Rattle.ci_memory_queue.proofs.Sorts.{sorted_then}
 use Rattle.ci_memory_queue.proofs.lines.turn.turn.Goals as goal
@@ -15,9 +14,9 @@ returns g c =
     let lines = c.first_among.new.lines.items in
     let notes = c.in_ok-notes.notes in
     let all = so g.T.Store.honest g.T.Store.holds g.T.Store.leaves
-    (λ k turn. IsRight c.args.lines.now k → Covers (known_lines lines notes) k.state k.board × (IsKept k → IsTurn c.args.order (waiting k.state k.board) c.args.project c.args.group.now turn)) _ _ _ (Ok tt) tt c.first_among.result c.in_ok-turn.turn c.in_ok-turn.turn refl c.in_ok-turn.was
-    (sorted_then g.T.Store.honest g.T.Store.holds g.T.Store.leaves (λ k q. Covers q k.state k.board) _ _ c.args.lines.now c.take.result _ _ _ c.known_or_filled.result c.in_ok-known.field-0 c.sort_fresh.result notes
-    c.take.ensures.value c.in_ok-known.was c.in_ok-notes.was c.known_or_filled.ensures (λ k covers. subst (λ (x : Known). Covers x k.state k.board) (sym c.known.view_is) covers) c.sort_fresh.ensures)
+    (λ k turn. IsRight c.args.lines.now k → Covers lines notes k.state k.board × (IsKept k → IsTurn c.args.order (waiting k.state k.board) c.args.project c.args.group.now turn)) _ _ _ (Ok tt) tt c.first_among.result c.in_ok-turn.turn c.in_ok-turn.turn refl c.in_ok-turn.was
+    (sorted_then g.T.Store.honest g.T.Store.holds g.T.Store.leaves (λ k (q : Lines). Covers q.lines.items q.notes k.state k.board) _ _ c.args.lines.now c.take.result _ _ _ c.known_or_filled.result _ c.sort_fresh.result notes
+    c.take.ensures.value c.in_ok-known.was c.in_ok-notes.was c.known_or_filled.ensures (λ k covers. covers) c.sort_fresh.ensures)
     (loads_both g.T.Store.honest g.T.Store.holds g.T.Store.leaves _ _ c.first_among.result c.first_among.ensures.keeps c.first_among.ensures.first)
     (λ k sorted its right.
     let is = sorted right in
