@@ -22,12 +22,12 @@ rt = load()
 
 
 @contextlib.contextmanager
-def room_of(crate, prefix):
-    """Gives a folder that has copies of what a check of the crate reads of it, and whose name begins so."""
+def room_of(folder, prefix):
+    """Gives a folder whose name begins so, with copies of what a check reads of the crate in this folder."""
     with tempfile.TemporaryDirectory(prefix=prefix) as room:
         for part in ("src", "specs", "proofs"):
-            if os.path.isdir(f"{crate.folder}/{part}"):
-                shutil.copytree(f"{crate.folder}/{part}", f"{room}/{part}")
+            if os.path.isdir(f"{folder}/{part}"):
+                shutil.copytree(f"{folder}/{part}", f"{room}/{part}")
         yield room
 
 
