@@ -11,7 +11,7 @@ ghost use Rattle.ci_http_peers.specs.Peers.{IsNext, IsNextDeadline, bytes_held, 
 
 use crate::answerer::Answerer;
 use crate::chair::{Chair, Step};
-use crate::peer::{Peer, Stage};
+use crate::peer::{Among, Peer, Stage};
 use crate::peers::{
     MAX_PEERS, MAX_REPLY_BYTES, end_late, have_room, make_room, next_deadline, next_place, places,
     put,
@@ -269,7 +269,7 @@ impl<W: Wire + Drop> Hall<W> {
         ensures { result ≡ is_at Writing (slice_get self.now.peers.items place) }
     {
         match self.peers.get(place) {
-            Some(Some(peer)) => matches!(peer.stage, Stage::Writing(_)),
+            Some(Some(peer)) => Among::Writing.has(peer.stage),
             _ => false,
         }
     }
@@ -294,7 +294,7 @@ impl<W: Wire + Drop> Hall<W> {
         ensures patience { self.new.patience ≡ self.old.patience }
     {
         put(&mut self.peers, place, Some(peer));
-        put_chair(&mut self.chairs, place, Some(chair));
+        put(&mut self.chairs, place, Some(chair));
     }
 
     /// The peer of a place goes, and its connection is over.
@@ -304,7 +304,7 @@ impl<W: Wire + Drop> Hall<W> {
         ensures patience { self.new.patience ≡ self.old.patience }
     {
         put(&mut self.peers, place, None);
-        put_chair(&mut self.chairs, place, None);
+        put(&mut self.chairs, place, None);
     }
 }
 
@@ -425,15 +425,6 @@ fn listen_one<W: Wire + Drop>(chair: &mut Option<Chair<W>>, place: usize) -> boo
     }
 }
 
-/// A connection has a place, or none. A place that isn't there stays so.
-fn put_chair<W: Wire + Drop>(chairs: &mut [Option<Chair<W>>], place: usize, chair: Option<Chair<W>>)
-    ensures { chairs.new ≡ slice_set chairs.old place chair }
-{
-    if place < chairs.len() {
-        chairs[place] = chair;
-    }
-}
-
 /// Ends the connections of the places where nobody sits.
 #[tactic(auto, using(crate::proofs::Turns::cleared_next))]
 fn clear<W: Wire + Drop>(peers: &[Option<Peer>], chairs: &mut [Option<Chair<W>>])
@@ -449,6 +440,6 @@ fn clear_one<W: Wire + Drop>(seat: Option<Peer>, place: usize, chairs: &mut [Opt
     ensures { chairs.new ≡ cleared_at seat place chairs.old }
 {
     if seat.is_none() {
-        put_chair(chairs, place, None);
+        put(chairs, place, None);
     }
 }

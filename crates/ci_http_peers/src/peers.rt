@@ -23,12 +23,12 @@ pub(crate) fn places<A: Drop>(alloc: Global) -> Result<Vec<Option<A>>, AllocErro
     Ok(seats)
 }
 
-/// Has a peer sit at a place, or nobody. A place that isn't there stays so.
-pub(crate) fn put(seats: &mut [Option<Peer>], place: usize, peer: Option<Peer>)
-    ensures { seats.new ≡ slice_set seats.old place peer }
+/// A place has a peer or a connection from now on, or none. A place that isn't there stays so.
+pub(crate) fn put<A: Drop>(table: &mut [Option<A>], place: usize, item: Option<A>)
+    ensures { table.new ≡ slice_set table.old place item }
 {
-    if place < seats.len() {
-        seats[place] = peer;
+    if place < table.len() {
+        table[place] = item;
     }
 }
 

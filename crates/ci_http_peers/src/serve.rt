@@ -101,9 +101,7 @@ pub fn serve_peers<N: Net, C: Clock, T, E, A: Answerer<T, E>>(
         return Err(Unserved::NoWait);
     };
     let ticks = Ticks { clock, start };
-    serve_by(
-        &mut poll, alloc, &ticks, listener, terms, answerer, subject,
-    )
+    serve_by(&mut poll, alloc, &ticks, listener, terms, answerer, subject)
 }
 
 /// Serves the connections of a listener by what waits for them.
@@ -167,55 +165,18 @@ fn run<'a, C: Clock, T, E, A: Answerer<T, E>>(
         if entry.door.is_done() && nearest.is_none() {
             break;
         }
-        wait(poll, events, ticks, nearest, entry.door.opens_at())?;
-        turn(events, hall, ticks, entry, answerer, subject)?;
-        end_late(hall, ticks, nearest)?;
-    }
-    Ok(())
-}
-
-/// Waits until a connection is ready, or the clock says that something is to be done.
-fn wait<C: Clock, E>(
-    poll: &mut Poll,
-    events: &mut Events,
-    ticks: &Ticks<'_, C>,
-    nearest: Option<u64>,
-    opens: Option<u64>,
-) -> Result<(), Unserved<E>> {
-    let timeout = time_to_wait(nearest, opens, ticks.now()?);
-    match poll.poll(events, timeout) {
-        Ok(()) => Ok(()),
-        Err(_) => Err(Unserved::NoWait),
-    }
-}
-
-/// Goes on with the peers whose connections are ready, and with new ones; none is accepted any more once the end has come.
-fn turn<'a, C: Clock, T, E, A: Answerer<T, E>>(
-    events: &Events,
-    hall: &mut Hall<Socket<'a>>,
-    ticks: &Ticks<'_, C>,
-    entry: &mut Entry<'a>,
-    answerer: &A,
-    subject: &mut T,
-) -> Result<(), Unserved<E>>
-    ensures { (requests : List (List ℕ)) × Answers (A.answers answerer.now) requests subject.old subject.new }
-{
-    hear(events, hall, ticks, &mut entry.door, answerer, subject)?;
-    accept_some(hall, ticks, entry, answerer, subject)?;
-    entry.door.close_if(answerer.is_over(subject));
-    Ok(())
-}
-
-/// Ends the peers whose time is over, if the nearest deadline of all has come.
-fn end_late<'a, C: Clock, E>(
-    hall: &mut Hall<Socket<'a>>,
-    ticks: &Ticks<'_, C>,
-    nearest: Option<u64>,
-) -> Result<(), Unserved<E>> {
-    let now = ticks.now()?;
-    match nearest {
-        Some(nearest) if nearest <= now => hall.end_late(now),
-        _ => {}
+        let timeout = time_to_wait(nearest, entry.door.opens_at(), ticks.now()?);
+        if poll.poll(events, timeout).is_err() {
+            return Err(Unserved::NoWait);
+        }
+        hear(events, hall, ticks, &mut entry.door, answerer, subject)?;
+        accept_some(hall, ticks, entry, answerer, subject)?;
+        entry.door.close_if(answerer.is_over(subject));
+        let now = ticks.now()?;
+        match nearest {
+            Some(nearest) if nearest <= now => hall.end_late(now),
+            _ => {}
+        }
     }
     Ok(())
 }
@@ -226,12 +187,19 @@ fn time_to_wait(nearest: Option<u64>, opens: Option<u64>, now: u64) -> Option<Du
     ensures time { (until : ℕ) → sooner nearest opens ≡ Some until
         → (wait : DurationOf) × (result ≡ Some wait) × (as_nanos wait ≡ (until - now) * 1000000) }
 {
-    let until = match (nearest, opens) {
+    let until = sooner(nearest, opens)?;
+    Some(Duration::from_millis(until.saturating_sub(now)))
+}
+
+/// The sooner of two moments, of which each may be missing.
+fn sooner(nearest: Option<u64>, opens: Option<u64>) -> Option<u64>
+    ensures { result ≡ sooner nearest opens }
+{
+    match (nearest, opens) {
         (Some(nearest), Some(opens)) => Some(nearest.min(opens)),
         (Some(nearest), None) => Some(nearest),
         (None, opens) => opens,
-    };
-    until.map(|until| Duration::from_millis(until.saturating_sub(now)))
+    }
 }
 
 /// Goes on with the peers whose connections are ready.

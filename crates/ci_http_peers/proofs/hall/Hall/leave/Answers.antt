@@ -5,9 +5,9 @@ use Rattle.ci_http_peers.proofs.hall.Hall.leave.Goals as goal
 pub returns-clause-peers : goal.returns-clause-peers
 returns-clause-peers g c =
     let peers = c.args.self.now.peers in
-    back_set peers.items c.deref_mut.result.now c.put.new.seats peers.len c.args.place None c.put.auto.seats c.deref_mut.ensures.len c.deref_mut.ensures.value c.put.ensures
+    back_set peers.items c.deref_mut.result.now c.put.new.table peers.len c.args.place None c.put.auto.table c.deref_mut.ensures.len c.deref_mut.ensures.value c.put.ensures
 
 pub returns-clause-chairs : goal.returns-clause-chairs
 returns-clause-chairs g c =
     let chairs = c.args.self.now.chairs in
-    back_set chairs.items c.deref_mut-2.result.now c.put_chair.new.chairs chairs.len c.args.place None c.put_chair.auto.chairs c.deref_mut-2.ensures.len c.deref_mut-2.ensures.value c.put_chair.ensures
+    back_set chairs.items c.deref_mut-2.result.now c.put-2.new.table chairs.len c.args.place None c.put-2.auto.table c.deref_mut-2.ensures.len c.deref_mut-2.ensures.value c.put-2.ensures
