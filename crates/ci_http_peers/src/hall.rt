@@ -426,7 +426,6 @@ fn listen_one<W: Wire + Drop>(chair: &mut Option<Chair<W>>, place: usize) -> boo
 }
 
 /// Ends the connections of the places where nobody sits.
-#[tactic(auto, using(crate::proofs::Turns::cleared_next))]
 fn clear<W: Wire + Drop>(peers: &[Option<Peer>], chairs: &mut [Option<Chair<W>>])
     ensures { chairs.new ≡ cleared peers.now chairs.old }
 {

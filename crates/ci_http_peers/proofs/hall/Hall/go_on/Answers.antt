@@ -15,27 +15,23 @@ returns-in-Waits-clause-answered g c =
     (slice_get c.args.self.now.peers.items c.args.place) (slice_get c.loop.self.peers.items c.args.place) c.args.subject.now c.loop.subject c.step.new.subject
     c.loop.invariant.here c.loop.invariant.answered c.step.ensures.once
 
-pub returns-in-Over-clause-others : goal.returns-in-Over-clause-others
-returns-in-Over-clause-others g c =
+pub returns-in-Over : goal.returns-in-Over
+returns-in-Over g c =
     let old = c.args.self.now in
     let mid = c.step.new.self in
-    others_leave c.args.place old.peers.items mid.peers.items c.leave.new.self.peers.items old.chairs.items mid.chairs.items c.leave.new.self.chairs.items
-    (same_but_twice c.args.place old.peers.items c.loop.self.peers.items mid.peers.items c.loop.invariant.peers c.step.ensures.peers)
-    (same_but_twice c.args.place old.chairs.items c.loop.self.chairs.items mid.chairs.items c.loop.invariant.chairs c.step.ensures.chairs)
-    c.leave.ensures.peers c.leave.ensures.chairs
-
-pub returns-in-Over-clause-here : goal.returns-in-Over-clause-here
-returns-in-Over-clause-here g c = inl (gone_at c.step.new.self.peers.items c.leave.new.self.peers.items c.args.place c.leave.ensures.peers)
-
-pub returns-in-Over-clause-answered : goal.returns-in-Over-clause-answered
-returns-in-Over-clause-answered g c =
-    answers_once_more g.row.W.Denot (g.A.Answerer.answers c.args.answerer.now) c.args.now c.args.self.now.patience
-    (slice_get c.args.self.now.peers.items c.args.place) (slice_get c.loop.self.peers.items c.args.place) c.args.subject.now c.loop.subject c.step.new.subject
-    c.loop.invariant.here c.loop.invariant.answered c.step.ensures.once
-
-pub returns-in-Over-clause-heard : goal.returns-in-Over-clause-heard
-returns-in-Over-clause-heard g c =
-    unheard_none (slice_get c.leave.new.self.chairs.items c.args.place) (gone_at c.step.new.self.chairs.items c.leave.new.self.chairs.items c.args.place c.leave.ensures.chairs)
+    let left = c.leave.ensures in
+    record {
+      others = others_leave c.args.place old.peers.items mid.peers.items c.leave.new.self.peers.items old.chairs.items mid.chairs.items c.leave.new.self.chairs.items
+          (same_but_twice c.args.place old.peers.items c.loop.self.peers.items mid.peers.items c.loop.invariant.peers c.step.ensures.peers)
+          (same_but_twice c.args.place old.chairs.items c.loop.self.chairs.items mid.chairs.items c.loop.invariant.chairs c.step.ensures.chairs)
+          left.peers left.chairs;
+      here = inl (gone_at mid.peers.items c.leave.new.self.peers.items c.args.place left.peers);
+      answered = answers_once_more g.row.W.Denot (g.A.Answerer.answers c.args.answerer.now) c.args.now old.patience
+          (slice_get old.peers.items c.args.place) (slice_get c.loop.self.peers.items c.args.place) c.args.subject.now c.loop.subject c.step.new.subject
+          c.loop.invariant.here c.loop.invariant.answered c.step.ensures.once;
+      heard = unheard_none (slice_get c.leave.new.self.chairs.items c.args.place) (gone_at mid.chairs.items c.leave.new.self.chairs.items c.args.place left.chairs);
+      patience = left.patience ∙ c.step.ensures.patience ∙ c.loop.invariant.patience;
+    }
 
 pub loop-preserved : goal.loop-preserved
 loop-preserved g c =
