@@ -1,50 +1,48 @@
 -- The routes of a path: one for each method, in the order of the methods' names.
-use Rattle.std.proofs.Common.{◌≡◌, ◌≤◌, ℕ, List, [], ◌∷◌, length, Option, Some, None, Bool, true, false, cond, refl, sym, subst, ◌∙◌, arith, map, filter, codes}
+use Rattle.std.proofs.Common.{◌≡◌, ◌≤◌, ℕ, List, [], ◌∷◌, length, Option, Some, None, Bool, true, false, cond, refl, sym, subst, ◌∙◌, ◌==◌, arith, map, filter, rules}
 use Rattle.std.proofs.lemmas.Slice.Eq.{bytes_eq-Decides}
 use Rattle.ci_machine.specs.declared.reply.Method.{Method}
-use Rattle.ci_http_messages.specs.Prelude.{Operation, AskJob, Health, wanted, Pattern, Queue, Variable, ResourceGroup, HealthCheck, ascends, is_text, method_text, patterns}
-use Rattle.ci_http_messages.specs.Prelude.{pattern_in, text_in, number_at, with_one, with_two, with_three, of_variable, of_group, with_key, routes_in, Wanted, routes_at}
-use Rattle.ci_machine.specs.declared.reply.Method.TheVariants.{Delete, Get, Post, Put}
+use Rattle.ci_http_messages.specs.Prelude.{Numbers, Route, Wanted, ascends, is_text, method_text, routes, patterns, pieces_fit, loose, routes_with, routes_at, segments}
 use Rattle.ci_http_messages.proofs.Walks.{cases}
-use Rattle.ci_http_messages.proofs.Groups.{by_pattern, at-path}
+use Rattle.ci_http_messages.proofs.Groups.{Group, Good, groups, good, seen, by_segments, rows_with, at-segments}
 
 -- two methods of one path: their names differ, and stand in their order
 abbrev InOrder : Method → Method → Type 0
 InOrder one other = (ascends (method_text one ∷ method_text other ∷ []) ≡ true) × (is_text (method_text one) (method_text other) ≡ false)
 
+-- a path has one route at most, or two whose methods are in order
+abbrev Few : List Route → Type 0
+Few [] = Unit {0}
+Few (r ∷ []) = Unit {0}
+Few (r ∷ l ∷ []) = InOrder r.method l.method
+Few (r ∷ l ∷ m ∷ rs) = ⊥
+
+abbrev AllFew : List Group → Type 0
+AllFew [] = Unit {0}
+AllFew (g ∷ gs) = Few g.rows × AllFew gs
+
+all-few : AllFew groups
+unfolding routes patterns
+all-few = search rules
+
 -- what holds of no route, of one, and of two whose methods are in order holds of the routes of each path
 module _ (P : List (Method × Wanted) → Type 0) (none : P []) (alone : (m : Method) (w : Wanted) → P ((m, w) ∷ []))
     (both : (m l : Method) (w v : Wanted) → InOrder m l → P ((m, w) ∷ (l, v) ∷ [])) where
-  on-one : (m : Method) (op : ℕ → Operation (List ℕ)) (n : Option ℕ) → P (with_one m op n)
-  on-one m op None = none
-  on-one m op (Some n) = alone m (wanted (op n))
+  on-rows : (rs : List Route) → Few rs → (key : List ℕ) (numbers : Option Numbers) → P (routes_with rs key numbers)
+  on-rows rs f key None = none
+  on-rows [] f key (Some v) = none
+  on-rows (r ∷ []) f key (Some v) = alone r.method _
+  on-rows (r ∷ l ∷ []) f key (Some v) = both r.method l.method _ _ f
+  on-rows (r ∷ l ∷ m ∷ rs) f key (Some v) = absurd f
 
-  on-two : (m : Method) (op : ℕ → ℕ → Operation (List ℕ)) (id n : Option ℕ) → P (with_two m op id n)
-  on-two m op None n = none
-  on-two m op (Some id) n = on-one m (op id) n
-
-  on-three : (m : Method) (op : ℕ → ℕ → ℕ → Operation (List ℕ)) (id n k : Option ℕ) → P (with_three m op id n k)
-  on-three m op None n k = none
-  on-three m op (Some id) n k = on-two m (op id) n k
-
-  on-key : (of : ℕ → List ℕ → List (Method × Wanted)) → ((id : ℕ) (key : List ℕ) → P (of id key)) → (id : Option ℕ) (key : Option (List ℕ)) → P (with_key of id key)
-  on-key of two None key = none
-  on-key of two (Some id) None = none
-  on-key of two (Some id) (Some key) = two id key
-
-  on-pattern : (p : Pattern) (id n m : Option ℕ) (key : Option (List ℕ)) → P (routes_in p id n m key)
-  on-pattern Queue id n m key = alone Post (wanted AskJob)
-  on-pattern HealthCheck id n m key = alone Get (wanted Health)
-  on-pattern Variable id n m key = on-key of_variable (λ i k. both Delete Put _ _ (refl, refl)) id key
-  on-pattern ResourceGroup id n m key = on-key of_group (λ i k. both Get Put _ _ (refl, refl)) id key
-  on-pattern _ id n m key = search (on-one, on-two, on-three)
-
-  on-found : (p : Option Pattern) (id n m key : Option (List ℕ)) → P (by_pattern p id n m key)
-  on-found None id n m key = none
-  on-found (Some p) id n m key = on-pattern p (number_at id) (number_at n) (number_at m) key
+  on-groups : (gs : List Group) → Good gs → AllFew gs → (ss : List (List ℕ)) → P (by_segments (seen gs) ss)
+  on-groups [] q f ss = none
+  on-groups (g ∷ gs) q f ss =
+      cases (pieces_fit (loose g.path) ss) (λ e. rw e (subst (λ rs. P (rows_with (loose g.path) ss rs)) (sym q.2) (on-rows g.rows f.0 _ _))) (λ e. rw e (on-groups gs q.3 f.1 ss))
 
   pub on-path : (path : List ℕ) → P (routes_at path)
-  on-path path = subst P (sym (at-path path)) (on-found (pattern_in patterns path) (text_in (codes "id") patterns path) (text_in (codes "n") patterns path) (text_in (codes "m") patterns path) (text_in (codes "key") patterns path))
+  on-path [] = none
+  on-path (b ∷ p) = cases (b == 47) (λ e. rw e (subst P (sym (at-segments (segments p))) (on-groups groups good all-few (segments p)))) (λ e. rw e none)
 
 abbrev Ascends : List (Method × Wanted) → Type 0
 Ascends rs = ascends (map (λ found. method_text found.0) rs) ≡ true

@@ -5,7 +5,7 @@ use Rattle.matchit.specs.Rows.{RowsOf}
 use Rattle.matchit.specs.Router.{RouteOf}
 use Rattle.matchit.specs.Seek.{first}
 use Rattle.matchit.specs.Level.{IsText}
-use Rattle.ci_http_messages.specs.Prelude.{Pattern, first_rows, table, patterns, pattern_in, text_in, fits, first_fit, all_tidy, sorted}
+use Rattle.ci_http_messages.specs.Prelude.{Pattern, paths, TakesPaths, table, patterns, pattern_in, text_in, fits, first_fit, all_tidy, sorted}
 use Rattle.std.specs.Str.{IsUtf8}
 use Rattle.ci_http_messages.proofs.Walks.{cases, same-byte}
 use Rattle.ci_http_messages.proofs.Named.{AreRows, Gives, rows-give}
@@ -24,15 +24,15 @@ first-value [] path = refl
 first-value ((t, e) ∷ rest) path = cases (fits t path) (λ h. rw h refl) (λ h. rw h (first-value rest path))
 
 table-sorted : sorted table ≡ true
-unfolding matchit_on_literals first_rows table
+unfolding matchit_on_literals table
 table-sorted = refl
 
 table-tidy : all_tidy table ≡ true
-unfolding matchit_on_literals first_rows table
+unfolding matchit_on_literals table
 table-tidy = refl
 
 table-pieces : valued table ≡ token_rows patterns
-unfolding matchit_on_literals first_rows table patterns
+unfolding matchit_on_literals table patterns
 table-pieces = refl
 
 patterns-plain : all_plain patterns ≡ true
@@ -46,6 +46,11 @@ is-text (b ∷ p) h =
     let l : b < 256 = omega arith in
     (l, is-text p (λ i. h (suc i)))
 
+-- each path reads well, and conflicts with none before it
+pub takes_all : TakesPaths paths []
+unfolding matchit_on_literals
+takes_all = search rules
+
 -- the route of a path
 pub found : (path : List ℕ) → IsText path → value_of (first table path) ≡ pattern_in patterns path
 found path x =
@@ -53,7 +58,7 @@ found path x =
     ∙ first-value table path ∙ ap (λ r. first_fit r path) table-pieces ∙ first-in patterns path patterns-plain
 
 table-rows : AreRows table patterns
-unfolding matchit_on_literals first_rows table patterns
+unfolding matchit_on_literals table patterns
 table-rows = search rules
 
 -- a path with a route starts with a slash

@@ -1,8 +1,8 @@
 -- What the router sees of paths: their patterns, whose slots take any text.
-use Rattle.std.specs.Prelude.{ℕ, List, [], ◌∷◌, Bool, true, false, cond, ◌&&◌, ◌==◌, ltb, length, Option, Some, None, nat_eq, codes}
+use Rattle.std.specs.Prelude.{ℕ, ◌-◌, List, [], ◌∷◌, Bool, true, false, cond, ◌&&◌, ◌==◌, ltb, length, map, take, drop, Option, Some, None, nat_eq}
 use Rattle.std.specs.Cmp.Lexicographic.{pointwise}
-use Rattle.ci_http_messages.specs.declared.routing.router.Pattern.{Pattern}
-use Rattle.ci_http_messages.specs.declared.routing.router.Pattern.TheVariants.{Queue, Attempt, AttemptTrace, CiFile, Variable, ResourceGroup, Creation, Pipeline, PipelineCancel, Job, JobTrace, JobPlay, JobCancel, JobRetry, Project, Pipelines, PipelineJobs, JobAttempts, JobAttemptTrace, ResourceGroups, HealthCheck}
+use Rattle.ci_http_messages.specs.declared.routing.table.Pattern.{Pattern}
+use Rattle.ci_http_messages.specs.declared.routing.table.TheConstants.{PATHS}
 use Rattle.ci_http_messages.specs.Segments.{segments}
 
 -- a part of a pattern: a word, or a slot of this name, where any text stands that is not empty
@@ -28,12 +28,6 @@ module _ {K : Type 0} where
   abbrev pub pattern_in : List (List Piece × K) → List ℕ → Option K
   pattern_in rs [] = None
   pattern_in rs (b ∷ p) = cond (b == 47) (first_of rs (segments p)) None
-
-abbrev pub api : List Piece → List Piece
-api ps = fixed (codes "api") ∷ fixed (codes "v4") ∷ ps
-
-abbrev pub project : List Piece → List Piece
-project ps = api (fixed (codes "projects") ∷ slot (codes "id") ∷ ps)
 
 -- the names of the slots, and the segments that stand at them
 abbrev pub slot_names : List Piece → List (List ℕ)
@@ -64,28 +58,14 @@ module _ {K : Type 0} where
   text_in key rs [] = None
   text_in key rs (b ∷ p) = cond (b == 47) (text_of key rs (segments p)) None
 
--- the patterns: of two that fit the first counts
+-- a segment of a path as the code's table writes it: in braces stands the name of a slot
+abbrev pub piece_of : List ℕ → Piece
+piece_of [] = fixed []
+piece_of (b ∷ s) = cond (b == 123) (slot (take (length s - 1) s)) (fixed (b ∷ s))
+
+abbrev pub pieces_in : List ℕ → List Piece
+pieces_in path = map piece_of (segments (drop 1 path))
+
+-- the patterns, as the code's table has them: of two that fit the first counts
 unfoldable pub patterns : List (List Piece × Pattern)
-patterns =
-    (fixed (codes "-") ∷ fixed (codes "health") ∷ [], HealthCheck)
-    ∷ (api (fixed (codes "jobs") ∷ fixed (codes "request") ∷ []), Queue)
-    ∷ (api (fixed (codes "jobs") ∷ slot (codes "n") ∷ fixed (codes "trace") ∷ []), AttemptTrace)
-    ∷ (api (fixed (codes "jobs") ∷ slot (codes "n") ∷ []), Attempt)
-    ∷ (project (fixed (codes "ci_file") ∷ []), CiFile)
-    ∷ (project (fixed (codes "jobs") ∷ slot (codes "n") ∷ fixed (codes "attempts") ∷ slot (codes "m") ∷ fixed (codes "trace") ∷ []), JobAttemptTrace)
-    ∷ (project (fixed (codes "jobs") ∷ slot (codes "n") ∷ fixed (codes "attempts") ∷ []), JobAttempts)
-    ∷ (project (fixed (codes "jobs") ∷ slot (codes "n") ∷ fixed (codes "cancel") ∷ []), JobCancel)
-    ∷ (project (fixed (codes "jobs") ∷ slot (codes "n") ∷ fixed (codes "play") ∷ []), JobPlay)
-    ∷ (project (fixed (codes "jobs") ∷ slot (codes "n") ∷ fixed (codes "retry") ∷ []), JobRetry)
-    ∷ (project (fixed (codes "jobs") ∷ slot (codes "n") ∷ fixed (codes "trace") ∷ []), JobTrace)
-    ∷ (project (fixed (codes "jobs") ∷ slot (codes "n") ∷ []), Job)
-    ∷ (project (fixed (codes "pipelines") ∷ slot (codes "n") ∷ fixed (codes "cancel") ∷ []), PipelineCancel)
-    ∷ (project (fixed (codes "pipelines") ∷ slot (codes "n") ∷ fixed (codes "jobs") ∷ []), PipelineJobs)
-    ∷ (project (fixed (codes "pipelines") ∷ slot (codes "n") ∷ []), Pipeline)
-    ∷ (project (fixed (codes "pipelines") ∷ []), Pipelines)
-    ∷ (project (fixed (codes "pipeline") ∷ []), Creation)
-    ∷ (project (fixed (codes "resource_groups") ∷ slot (codes "key") ∷ []), ResourceGroup)
-    ∷ (project (fixed (codes "resource_groups") ∷ []), ResourceGroups)
-    ∷ (project (fixed (codes "variables") ∷ slot (codes "key") ∷ []), Variable)
-    ∷ (project [], Project)
-    ∷ []
+patterns = map (λ row. (pieces_in row.0.now, row.1)) PATHS

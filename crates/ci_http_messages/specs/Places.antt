@@ -1,19 +1,19 @@
 -- Where a path leads: its pattern and what stands in its slots, and the routes that it has by these.
-use Rattle.std.specs.Prelude.{◌≡◌, ℕ, List, [], ◌∷◌, Option, Some, None, option_map, option_and_then, codes}
+use Rattle.std.specs.Prelude.{◌≡◌, ℕ, Bool, true, false, List, [], ◌∷◌, ◌&&◌, if◌then◌else◌, map, filter, Option, Some, None, option_map, option_and_then, unwrap_or, codes}
+use denote.Enum.Bare.{sameb}
 use Rattle.ci_machine.specs.Prelude.{id_in}
 use Rattle.ci_machine.specs.declared.reply.Method.{Method}
-use Rattle.ci_machine.specs.declared.reply.Method.TheVariants.{Delete, Get, Patch, Post, Put}
-use Rattle.ci_machine.specs.declared.request.Subject.{Subject}
 use Rattle.ci_http_messages.specs.declared.routing.operation.Operation.{Operation}
-use Rattle.ci_http_messages.specs.declared.routing.operation.Operation.TheVariants.{AskJob, UpdateJob, AppendTrace, SetFile, SetVariable, DeleteVariable, SetMode, ShowMode, CreatePipeline, ShowPipeline, CancelPipeline, ShowJob, ShowTrace, Play, CancelJob, RetryJob, Read, Health}
-use Rattle.ci_http_messages.specs.declared.routing.lookup.Entry.{Entry}
-use Rattle.ci_http_messages.specs.declared.routing.lookup.Entries.{Entries}
+use Rattle.ci_http_messages.specs.declared.routing.place.Numbers.{Numbers}
 use Rattle.ci_http_messages.specs.declared.routing.place.Place.{Place}
-use Rattle.ci_http_messages.specs.declared.routing.router.Pattern.{Pattern}
-use Rattle.ci_http_messages.specs.declared.routing.router.Pattern.TheVariants.{Queue, Attempt, AttemptTrace, CiFile, Variable, ResourceGroup, Creation, Pipeline, PipelineCancel, Job, JobTrace, JobPlay, JobCancel, JobRetry, Project, Pipelines, PipelineJobs, JobAttempts, JobAttemptTrace, ResourceGroups, HealthCheck}
+use Rattle.ci_http_messages.specs.declared.routing.table.Entry.{Entry}
+use Rattle.ci_http_messages.specs.declared.routing.table.Entries.{Entries}
+use Rattle.ci_http_messages.specs.declared.routing.table.Pattern.{Pattern}
+use Rattle.ci_http_messages.specs.contracts.routing.table.Pattern.{the_type}
 use Rattle.ci_http_messages.specs.Answers.{map_key, wanted}
-use Rattle.ci_http_messages.specs.Patterns.{patterns, pattern_in, text_in}
-use Rattle.ci_http_messages.specs.Routes.{Wanted}
+use Rattle.ci_http_messages.specs.Methods.{is_text}
+use Rattle.ci_http_messages.specs.Patterns.{Piece, fixed, slot, patterns, pattern_in, text_in}
+use Rattle.ci_http_messages.specs.Routes.{Part, word, number, text, Takes, Route, Wanted, routes}
 
 -- a method's routes in a list of them
 module _ {K : Type 0} (view : K → List ℕ) where
@@ -27,64 +27,71 @@ module _ {K : Type 0} (view : K → List ℕ) where
   abbrev pub listed : Entries K → List (Method × Wanted)
   listed entries = entry entries.first ∷ entry_after entries.second
 
--- the number that stands in a slot
+-- ---- which rows of the table of routes a pattern has
+
+-- a route's path as the router sees it
+abbrev pub loose : List Part → List Piece
+loose [] = []
+loose (word w ∷ ps) = fixed w ∷ loose ps
+loose (number x ∷ ps) = slot x ∷ loose ps
+loose (text x ∷ ps) = slot x ∷ loose ps
+
+abbrev pub same_piece : Piece → Piece → Bool
+same_piece (fixed v) (fixed w) = is_text v w
+same_piece (slot x) (slot y) = is_text x y
+same_piece _ _ = false
+
+abbrev pub same_pieces : List Piece → List Piece → Bool
+same_pieces [] [] = true
+same_pieces (p ∷ ps) (q ∷ qs) = same_piece p q && same_pieces ps qs
+same_pieces _ _ = false
+
+-- the routes whose path is this
+abbrev pub rows_at : List Piece → List Route
+rows_at ps = filter (λ r. same_pieces (loose r.path) ps) routes
+
+-- the path of a pattern
+abbrev pub pieces_of : List (List Piece × Pattern) → Pattern → List Piece
+pieces_of [] p = []
+pieces_of ((ps, q) ∷ rest) p = if sameb the_type q p then ps else pieces_of rest p
+
+abbrev pub rows_of : Pattern → List Route
+rows_of p = rows_at (pieces_of patterns p)
+
+-- ---- what these ask for
+
+-- the number that stands in a slot, 0 where there is no slot
 abbrev pub number_at : Option (List ℕ) → Option ℕ
-number_at slot = option_and_then id_in slot
+number_at None = Some 0
+number_at (Some t) = id_in t
 
--- the one route of a place with one number, with two, and with three
-abbrev pub with_one : Method → (ℕ → Operation (List ℕ)) → Option ℕ → List (Method × Wanted)
-with_one method op None = []
-with_one method op (Some n) = (method, wanted (op n)) ∷ []
+-- the numbers that stand in the slots of a path, if each is one
+abbrev pub numbers_in : Option (List ℕ) → Option (List ℕ) → Option (List ℕ) → Option Numbers
+numbers_in id n m =
+    option_and_then (λ i. option_and_then (λ k. option_map (λ l. record { id = i; n = k; m = l }) (number_at m)) (number_at n)) (number_at id)
 
-abbrev pub with_two : Method → (ℕ → ℕ → Operation (List ℕ)) → Option ℕ → Option ℕ → List (Method × Wanted)
-with_two method op None n = []
-with_two method op (Some id) n = with_one method (op id) n
+abbrev pub number_named : List ℕ → Numbers → ℕ
+number_named name v = if is_text (codes "id") name then v.id else if is_text (codes "n") name then v.n else v.m
 
-abbrev pub with_three : Method → (ℕ → ℕ → ℕ → Operation (List ℕ)) → Option ℕ → Option ℕ → Option ℕ → List (Method × Wanted)
-with_three method op None n m = []
-with_three method op (Some id) n m = with_two method (op id) n m
+-- what a path asks for, by the numbers in its slots and its key
+abbrev pub filled : (ps : List Part) → Takes ps → Numbers → List ℕ → Operation (List ℕ)
+filled [] op v key = op
+filled (word w ∷ ps) op v key = filled ps op v key
+filled (number x ∷ ps) op v key = filled ps (op (number_named x v)) v key
+filled (text x ∷ ps) op v key = filled ps (op key) v key
 
--- the routes of a variable
-abbrev pub of_variable : ℕ → List ℕ → List (Method × Wanted)
-of_variable id key = (Delete, wanted (DeleteVariable id key)) ∷ (Put, wanted (SetVariable id key)) ∷ []
+abbrev pub route_with : Numbers → List ℕ → Route → Method × Wanted
+route_with v key r = (r.method, record { fields = r.fields; body = r.body; operation = filled r.path r.operation v key })
 
--- the routes of a resource group
-abbrev pub of_group : ℕ → List ℕ → List (Method × Wanted)
-of_group id key = (Get, wanted (ShowMode id key)) ∷ (Put, wanted (SetMode id key)) ∷ []
+abbrev pub routes_with : List Route → List ℕ → Option Numbers → List (Method × Wanted)
+routes_with rows key None = []
+routes_with rows key (Some v) = map (route_with v key) rows
 
--- the routes of a place with a number and a key
-abbrev pub with_key : (ℕ → List ℕ → List (Method × Wanted)) → Option ℕ → Option (List ℕ) → List (Method × Wanted)
-with_key of None key = []
-with_key of (Some id) None = []
-with_key of (Some id) (Some key) = of id key
-
--- the routes of a pattern, by what stands in its slots
-abbrev pub routes_in : Pattern → Option ℕ → Option ℕ → Option ℕ → Option (List ℕ) → List (Method × Wanted)
-routes_in Queue id n m key = (Post, wanted AskJob) ∷ []
-routes_in Attempt id n m key = with_one Put UpdateJob n
-routes_in AttemptTrace id n m key = with_one Patch AppendTrace n
-routes_in CiFile id n m key = with_one Put SetFile id
-routes_in Variable id n m key = with_key of_variable id key
-routes_in ResourceGroup id n m key = with_key of_group id key
-routes_in Creation id n m key = with_one Post CreatePipeline id
-routes_in Pipeline id n m key = with_two Get ShowPipeline id n
-routes_in PipelineCancel id n m key = with_two Post CancelPipeline id n
-routes_in Job id n m key = with_two Get ShowJob id n
-routes_in JobTrace id n m key = with_two Get ShowTrace id n
-routes_in JobPlay id n m key = with_two Post Play id n
-routes_in JobCancel id n m key = with_two Post CancelJob id n
-routes_in JobRetry id n m key = with_two Post RetryJob id n
-routes_in Project id n m key = with_one Get (λ i. Read i Subject.Project) id
-routes_in Pipelines id n m key = with_one Get (λ i. Read i Subject.Pipelines) id
-routes_in PipelineJobs id n m key = with_two Get (λ i k. Read i (Subject.Jobs k)) id n
-routes_in JobAttempts id n m key = with_two Get (λ i k. Read i (Subject.Attempts k)) id n
-routes_in JobAttemptTrace id n m key = with_three Get (λ i k l. Read i (Subject.Trace k l)) id n m
-routes_in ResourceGroups id n m key = with_one Get (λ i. Read i Subject.ResourceGroups) id
-routes_in HealthCheck id n m key = (Get, wanted Health) ∷ []
-
+-- the routes of a place, of which it has none where a slot for a number has none
 abbrev pub routes_by : Place → List (Method × Wanted)
 routes_by place =
-    routes_in place.pattern (number_at (option_map (λ t. t.now) place.id)) (number_at (option_map (λ t. t.now) place.n)) (number_at (option_map (λ t. t.now) place.m)) (option_map (λ t. t.now) place.key)
+    routes_with (rows_of place.pattern) (unwrap_or (option_map (λ t. t.now) place.key) [])
+    (numbers_in (option_map (λ t. t.now) place.id) (option_map (λ t. t.now) place.n) (option_map (λ t. t.now) place.m))
 
 -- a path leads to a place
 pub record LeadsTo (path : List ℕ) (place : Place) : Type 0 where

@@ -7,12 +7,12 @@ pub use Rattle.ci_http_messages.specs.Dues.{IsWhole}
 pub use Rattle.ci_http_messages.specs.Fields.{Shows, is_named, values_of}
 pub use Rattle.ci_http_messages.specs.Fits.{after, ahead, all_open, all_tidy, first_fit, fits, goes_on, opens, sorted, tidy, tokens}
 pub use Rattle.ci_http_messages.specs.Head.{Head, IsHeadOf, head_at, head_parts}
-pub use Rattle.ci_http_messages.specs.Laws.{ascends, path_text}
+pub use Rattle.ci_http_messages.specs.Laws.{ascends}
 pub use Rattle.ci_http_messages.specs.Methods.{is_text, method_text}
 pub use Rattle.ci_http_messages.specs.Opening.{IsOpening, Opening, empty_line, head_len, is_line_feed, opened, opening_at, opening_of, short, too_large}
 pub use Rattle.ci_http_messages.specs.Patterns.{Piece, first_of, fixed, pattern_in, pieces_fit, slot, slot_names, slot_texts, text_at, text_in, text_of}
 unfoldable pub use Rattle.ci_http_messages.specs.Patterns.{patterns}
-pub use Rattle.ci_http_messages.specs.Places.{LeadsTo, number_at, of_group, of_variable, routes_by, routes_in, with_key, with_one, with_three, with_two}
+pub use Rattle.ci_http_messages.specs.Places.{LeadsTo, filled, loose, number_at, number_named, numbers_in, routes_by, routes_with, rows_at, rows_of}
 pub use Rattle.ci_http_messages.specs.Ranges.{place_in}
 pub use Rattle.ci_http_messages.specs.Reading.{AwaitsBody, IsReading, IsReadingAt, IsReadingCode, Message, Reading, Refuses, ended, message, reading_after, reading_by, refused}
 pub use Rattle.ci_http_messages.specs.Reading.{request}
@@ -21,12 +21,13 @@ pub use Rattle.ci_http_messages.specs.ReplyText.{IsResponse, allow_line, allow_t
 pub use Rattle.ci_http_messages.specs.ReplyText.{reply_text, type_line, type_text}
 unfoldable pub use Rattle.ci_http_messages.specs.ReplyText.{status_line}
 pub use Rattle.ci_http_messages.specs.RequestBytes.{AsksMemory, AsksMemoryBy, asked_at, is_health, methods_of, request_as, request_by, request_in}
-pub use Rattle.ci_http_messages.specs.Routes.{Asked, Part, Route, Takes, Wanted, asked_by, asked_in, asked_of, asks, no_body, no_route, number, other_methods, reads, routes_at}
+pub use Rattle.ci_http_messages.specs.Routes.{Asked, Part, Route, Takes, Wanted, asked_by, asked_in, asked_of, asks, no_route, number, other_methods, path_text, reads, routes_at}
 pub use Rattle.ci_http_messages.specs.Routes.{routes_of, text, with_route, word}
 unfoldable pub use Rattle.ci_http_messages.specs.Routes.{routes}
 pub use Rattle.ci_http_messages.specs.Segments.{onto, segments}
 pub use Rattle.ci_http_messages.specs.Sources.{Fails, TakesFront, Tells}
-unfoldable pub use Rattle.ci_http_messages.specs.Table.{first_rows, table}
+pub use Rattle.ci_http_messages.specs.Table.{TakesPaths, paths, with_paths, written}
+unfoldable pub use Rattle.ci_http_messages.specs.Table.{table}
 pub use Rattle.ci_http_messages.specs.Targets.{path_of}
 pub use Rattle.ci_http_messages.specs.declared.fault.HttpFault.TheVariants.{Ended, Memory, Refused}
 pub use Rattle.ci_http_messages.specs.declared.fields.Found.{Found}
@@ -34,9 +35,6 @@ pub use Rattle.ci_http_messages.specs.declared.fields.Found.TheVariants.{Absent,
 pub use Rattle.ci_http_messages.specs.declared.limits.TheConstants.{MAX_BODY_BYTES, MAX_HEAD_BYTES, MAX_HEAD_LINES}
 pub use Rattle.ci_http_messages.specs.declared.route.Demand.{Demand}
 pub use Rattle.ci_http_messages.specs.declared.routing.operation.Operation.{Operation}
-pub use Rattle.ci_http_messages.specs.declared.routing.operation.Operation.TheVariants.{AskJob, Health}
+pub use Rattle.ci_http_messages.specs.declared.routing.place.Numbers.{Numbers}
 pub use Rattle.ci_http_messages.specs.declared.routing.place.Place.{Place}
-pub use Rattle.ci_http_messages.specs.declared.routing.router.Pattern.{Pattern}
-pub use Rattle.ci_http_messages.specs.declared.routing.router.Pattern.TheVariants.{Attempt, AttemptTrace, CiFile, Creation, HealthCheck, Job, JobAttemptTrace, JobAttempts}
-pub use Rattle.ci_http_messages.specs.declared.routing.router.Pattern.TheVariants.{JobCancel, JobPlay, JobRetry, JobTrace, Pipeline, PipelineCancel, PipelineJobs, Pipelines}
-pub use Rattle.ci_http_messages.specs.declared.routing.router.Pattern.TheVariants.{Project, Queue, ResourceGroup, ResourceGroups, Variable}
+pub use Rattle.ci_http_messages.specs.declared.routing.table.Pattern.{Pattern}

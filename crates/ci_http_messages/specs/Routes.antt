@@ -1,5 +1,5 @@
 -- The table of routes, and what a method and a path ask for by it.
-use Rattle.std.specs.Prelude.{ℕ, List, [], ◌∷◌, map, cond, ◌==◌, if◌then◌else◌, Option, Some, None, option_and_then, codes}
+use Rattle.std.specs.Prelude.{ℕ, List, [], ◌∷◌, ◌++◌, map, cond, ◌==◌, if◌then◌else◌, Option, Some, None, option_and_then, codes, decimal}
 use Rattle.std.specs.List.{find}
 use Rattle.ci_machine.specs.Prelude.{id_in}
 use Rattle.ci_machine.specs.declared.reply.Method.{Method}
@@ -59,7 +59,7 @@ abbrev pub open_route : (method : Method) (path : List Part) → Takes path → 
 open_route method path operation =
     record { method = method; path = path; fields = []; body = no_body; operation = operation }
 
--- the routes; those of one path stand together, in the order of their methods' names
+-- the routes, in the order of the code's table of paths; those of one path stand together, in the order of their methods' names
 unfoldable pub routes : List Route
 routes =
     open_route Get (word (codes "-") ∷ word (codes "health") ∷ []) Health
@@ -91,6 +91,36 @@ routes =
     ∷ project_route Put (project (word (codes "variables") ∷ text (codes "key") ∷ [])) (json (codes "value" ∷ [])) SetVariable
     ∷ project_route Get (project []) no_body (λ id. Read id Subject.Project)
     ∷ []
+
+-- the path of a project, with what follows
+abbrev pub project_path : ℕ → List ℕ → List ℕ
+project_path id rest = codes "/api/v4/projects/" ++ (decimal id ++ rest)
+
+-- the one path that asks for an operation
+abbrev pub path_text : Operation (List ℕ) → List ℕ
+path_text AskJob = codes "/api/v4/jobs/request"
+path_text (UpdateJob n) = codes "/api/v4/jobs/" ++ decimal n
+path_text (AppendTrace n) = codes "/api/v4/jobs/" ++ (decimal n ++ codes "/trace")
+path_text (SetFile id) = project_path id (codes "/ci_file")
+path_text (SetVariable id key) = project_path id (codes "/variables/" ++ key)
+path_text (DeleteVariable id key) = project_path id (codes "/variables/" ++ key)
+path_text (SetMode id key) = project_path id (codes "/resource_groups/" ++ key)
+path_text (ShowMode id key) = project_path id (codes "/resource_groups/" ++ key)
+path_text (CreatePipeline id) = project_path id (codes "/pipeline")
+path_text (ShowPipeline id n) = project_path id (codes "/pipelines/" ++ decimal n)
+path_text (CancelPipeline id n) = project_path id (codes "/pipelines/" ++ (decimal n ++ codes "/cancel"))
+path_text (ShowJob id n) = project_path id (codes "/jobs/" ++ decimal n)
+path_text (ShowTrace id n) = project_path id (codes "/jobs/" ++ (decimal n ++ codes "/trace"))
+path_text (Play id n) = project_path id (codes "/jobs/" ++ (decimal n ++ codes "/play"))
+path_text (CancelJob id n) = project_path id (codes "/jobs/" ++ (decimal n ++ codes "/cancel"))
+path_text (RetryJob id n) = project_path id (codes "/jobs/" ++ (decimal n ++ codes "/retry"))
+path_text (Read id Subject.Project) = codes "/api/v4/projects/" ++ decimal id
+path_text (Read id Subject.Pipelines) = project_path id (codes "/pipelines")
+path_text (Read id (Subject.Jobs n)) = project_path id (codes "/pipelines/" ++ (decimal n ++ codes "/jobs"))
+path_text (Read id (Subject.Attempts n)) = project_path id (codes "/jobs/" ++ (decimal n ++ codes "/attempts"))
+path_text (Read id (Subject.Trace n m)) = project_path id (codes "/jobs/" ++ (decimal n ++ (codes "/attempts/" ++ (decimal m ++ codes "/trace"))))
+path_text (Read id Subject.ResourceGroups) = project_path id (codes "/resource_groups")
+path_text Health = codes "/-/health"
 
 -- what the segments ask for by a route's path, if each fits its part
 abbrev pub reads : (ps : List Part) → Takes ps → List (List ℕ) → Option (Operation (List ℕ))

@@ -55,7 +55,7 @@ pub fn request_of(alloc: Global, paths: &Paths, call: &Call<'_>) -> Result<Deman
     ensures err { IfErr result (λ reply. ((reply ≡ refusal Code.M16) × AsksMemory call.now) ⊎ (request_in call.now ≡ Err reply)) }
 {
     match asked_by(paths, call) {
-        Lookup::Found(operation) if is_health(operation) => Ok(Demand::Health),
+        Lookup::Found(operation) if is_health(&operation) => Ok(Demand::Health),
         Lookup::Found(operation) => match requested(alloc, operation, call) {
             Ok(request) => Ok(Demand::Request(request)),
             Err(why) => Err(Reply::refusal(why)),
@@ -86,8 +86,8 @@ fn not_allowed(methods: Methods) -> Reply
 }
 
 // Does an operation ask whether the server is open?
-fn is_health(operation: Operation<&str>) -> bool
-    ensures { result ≡ is_health (map_key (λ key. key.now) operation.entry) }
+fn is_health(operation: &Operation<&str>) -> bool
+    ensures { result ≡ is_health (map_key (λ key. key.now) operation.now) }
 {
     match operation {
         Operation::Health => true,

@@ -7,3 +7,4 @@ pub mod operation;
 pub mod paths;
 mod place;
 mod router;
+mod table;

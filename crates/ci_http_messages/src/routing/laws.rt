@@ -1,9 +1,9 @@
 //! Laws of the table of routes.
 
 ghost use Rattle.std.specs.Prelude.{◌≡◌, ◌≤◌, ℕ, List, length, map, filter, true};
-ghost use Rattle.ci_http_messages.specs.Laws.{ascends, path_text};
+ghost use Rattle.ci_http_messages.specs.Laws.{ascends};
 ghost use Rattle.ci_http_messages.specs.Methods.{is_text, method_text};
-ghost use Rattle.ci_http_messages.specs.Routes.{Wanted, asks, asked_in, routes_at};
+ghost use Rattle.ci_http_messages.specs.Routes.{Wanted, asks, asked_in, path_text, routes_at};
 
 /// A method and a path have one route at most, so what they ask for doesn't depend on the order of
 /// the table.

@@ -5,7 +5,7 @@ use ci_machine::request::Subject;
 /// What a route asks the server to do, with what stands in its path: the numbers of records, and a
 /// key of type `K`. Below the jobs of runners a number is that of an attempt. Below a project the
 /// first number is the project's, and the second that of a job or a pipeline.
-#[derive(Clone, Copy, Drop)]
+#[derive(Drop)]
 pub enum Operation<K> {
     /// POST `/api/v4/jobs/request`: a runner asks for a job.
     AskJob,

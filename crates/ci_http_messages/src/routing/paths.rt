@@ -7,7 +7,8 @@ ghost use Rattle.ci_http_messages.specs.Answers.{as_asked};
 
 use crate::routing::lookup::{Lookup, lookup_at};
 use crate::routing::place::place_of;
-use crate::routing::router::{Pattern, router_of};
+use crate::routing::router::router_of;
+use crate::routing::table::Pattern;
 use matchit::Router;
 use std::alloc::{AllocError, Global};
 

@@ -1,11 +1,11 @@
 //! Where a path leads.
 
-ghost use Rattle.std.specs.Prelude.{◌≡◌, None, MatchOption, option_map};
+ghost use Rattle.std.specs.Prelude.{◌≡◌, [], None, MatchOption, option_map, unwrap_or};
 ghost use Rattle.ci_http_messages.specs.Patterns.{patterns, pattern_in, text_in};
 ghost use Rattle.ci_http_messages.specs.Table.{table};
-ghost use Rattle.ci_http_messages.specs.Places.{LeadsTo, number_at};
+ghost use Rattle.ci_http_messages.specs.Places.{LeadsTo, number_at, numbers_in};
 
-use crate::routing::router::Pattern;
+use crate::routing::table::Pattern;
 use ci_values::number::id_in;
 use matchit::Router;
 
@@ -19,34 +19,45 @@ pub(crate) struct Place<'p> {
     pub key: Option<&'p str>,
 }
 
+/// The numbers in the slots of a path, each 0 where the path has no such slot.
+#[derive(Clone, Copy, Drop)]
+pub(crate) struct Numbers {
+    pub id: u64,
+    pub n: u64,
+    pub m: u64,
+}
+
 impl<'p> Place<'p> {
-    /// The number that stands in the slot `:id`.
-    pub fn id(&self) -> Option<u64>
-        ensures { result ≡ number_at (option_map (λ text. text.now) self.now.id) }
+    /// The numbers in the slots, unless what stands in one of them is none.
+    pub fn numbers(&self) -> Option<Numbers>
+        ensures { result ≡ numbers_in (option_map (λ t. t.now) self.now.id) (option_map (λ t. t.now) self.now.n) (option_map (λ t. t.now) self.now.m) }
     {
-        number_in(self.id)
+        Some(Numbers {
+            id: number_in(self.id)?,
+            n: number_in(self.n)?,
+            m: number_in(self.m)?,
+        })
     }
 
-    /// The number that stands in the slot `:n`.
-    pub fn n(&self) -> Option<u64>
-        ensures { result ≡ number_at (option_map (λ text. text.now) self.now.n) }
+    /// The text in the slot `:key`, empty where the path has none.
+    pub fn key(&self) -> &'p str
+        ensures { result.now ≡ unwrap_or (option_map (λ t. t.now) self.now.key) [] }
     {
-        number_in(self.n)
-    }
-
-    /// The number that stands in the slot `:m`.
-    pub fn m(&self) -> Option<u64>
-        ensures { result ≡ number_at (option_map (λ text. text.now) self.now.m) }
-    {
-        number_in(self.m)
+        match self.key {
+            Some(key) => key,
+            None => "",
+        }
     }
 }
 
-// The number that stands in a slot.
+// The number that stands in a slot, 0 where there is no slot.
 fn number_in(text: Option<&str>) -> Option<u64>
-    ensures { result ≡ number_at (option_map (λ text. text.now) text.entry) }
+    ensures { result ≡ number_at (option_map (λ t. t.now) text.entry) }
 {
-    id_in(text?.as_bytes())
+    match text {
+        Some(text) => id_in(text.as_bytes()),
+        None => Some(0),
+    }
 }
 
 /// Where a path leads, if it leads anywhere.
