@@ -1,5 +1,6 @@
 -- Lemmas.
 pub mod Saying
 pub mod Rounds
+pub mod Further
 pub mod Layouts
 pub mod Noting
