@@ -193,7 +193,7 @@ fn listen<S: Alter, C: Clock, R: RandomSource, O: Write, E: Write>(
         return end(output, journal, Line::CannotListen(options.port));
     };
     match Paths::new(rt.alloc()) {
-        Ok(paths) => hear(
+        Ok(paths) => serve_listener(
             rt,
             &mut listener,
             server,
@@ -208,7 +208,7 @@ fn listen<S: Alter, C: Clock, R: RandomSource, O: Write, E: Write>(
 }
 
 /// Serves the connections of a listener. What a first poll needs is looked up before it says that it listens.
-fn hear<S: Alter, C: Clock, R: RandomSource, O: Write, E: Write>(
+fn serve_listener<S: Alter, C: Clock, R: RandomSource, O: Write, E: Write>(
     rt: &HostRuntime,
     listener: &mut TcpListener,
     server: &mut Server<S>,
