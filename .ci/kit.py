@@ -31,17 +31,27 @@ def room_of(folder, prefix):
         yield room
 
 
-def build_below(crate):
-    """Builds those crates below the crate that aren't built yet, and returns the name of the first that can't be, or None."""
-    for dep in crate.below():
-        if not os.path.isdir(dep.rlib) and dep.build_rlib(["--jobs", "1"], anew=False):
-            return dep.name
+def build_all(libraries):
+    """Builds those of these libraries that aren't built yet, and returns the name of the first that can't be, or None."""
+    for library in libraries:
+        if not os.path.isdir(library.rlib) and library.build_rlib(["--jobs", "1"], anew=False):
+            return library.name
     return None
+
+
+def build_below(crate):
+    """Does so for the libraries below the crate."""
+    return build_all(crate.below())
+
+
+def crates_in(tree):
+    """Returns the crates of a tree by their names."""
+    return {it.name: it for it in rt.rtlib.crates_below(os.path.realpath(tree))}
 
 
 def crate_in(name, tree):
     """Returns the crate of this name in a tree."""
-    return {it.name: it for it in rt.rtlib.crates_below(os.path.realpath(tree))}[name]
+    return crates_in(tree)[name]
 
 
 def checkable(name, tree):
@@ -52,9 +62,14 @@ def checkable(name, tree):
     return crate
 
 
+def check_by(words):
+    """Returns the command of a check by these words."""
+    return [*rt.rtlib.guarded(), rt.rtlib.RATTLE, "check", *words]
+
+
 def check_of(crate, *words):
     """Returns the command that checks the crate, on one processor, with these words behind its own."""
-    return [*rt.rtlib.guarded(), rt.rtlib.RATTLE, "check", *crate.words(["--jobs", "1"], keeps=False), *words]
+    return check_by([*crate.words(["--jobs", "1"], keeps=False), *words])
 
 
 def heard(lines):
