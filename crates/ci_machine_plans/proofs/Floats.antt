@@ -3,15 +3,13 @@ use Rattle.std.proofs.Common.{◌≡◌, ◌||◌, ℕ, List, [], ◌∷◌, map
 use Rattle.serde_json.specs.Data.{Data, string, number, unsigned}
 use Rattle.serde_json.specs.View.{items_of}
 use Rattle.serde_json.specs.Written.{has_float, items_have_float}
-use Rattle.ci_machine_steps.specs.Prelude.{Attempt, Pipeline, PipelineWithStatus, Runner, Job, Need, Claim, JobVariable, QueuedJob, number_or_null, text_or_null, listed}
-use Rattle.ci_machine_steps.specs.Prelude.{listed_pipeline_data, exit_of, reason_of, runner_or_null, attempt_data, needs_among, told_jobs, jobs_data, pipeline_data, variable_data}
+use Rattle.ci_machine_steps.specs.Prelude.{Attempt, Pipeline, Runner, Job, Need, Claim, JobVariable, QueuedJob, number_or_null, text_or_null, listed}
+use Rattle.ci_machine_steps.specs.Prelude.{exit_of, reason_of, runner_or_null, attempt_data, needs_among, told_jobs, jobs_data, pipeline_data, variable_data}
 use Rattle.ci_machine_steps.specs.Prelude.{granted_variables, grant_data, Facts, Row}
 use Rattle.ci_machine.specs.Listings.{attempts_among}
-use Rattle.ci_machine_plans.specs.declared.listed_jobs.ToldGroup.{ToldGroup}
-use Rattle.ci_machine_plans.specs.Objects.{told_group}
 
 -- a list whose items have none has none
-items : {A : Type 0} (data_of : A → Data) → ((x : A) → has_float (data_of x) ≡ false) → (xs : List A) → items_have_float (items_of (map data_of xs)) ≡ false
+pub items : {A : Type 0} (data_of : A → Data) → ((x : A) → has_float (data_of x) ≡ false) → (xs : List A) → items_have_float (items_of (map data_of xs)) ≡ false
 items data_of plain [] = refl
 items data_of plain (x ∷ xs) = λ i. plain x i || items data_of plain xs i
 
@@ -48,9 +46,6 @@ attempt_has_none runners a =
 pub attempts_have_none : (runners : List Runner) (attempts : List Attempt) → has_float (listed (attempt_data runners) attempts) ≡ false
 attempts_have_none runners = items (attempt_data runners) (attempt_has_none runners)
 
-pub pipelines_have_none : (pipelines : List PipelineWithStatus) → has_float (listed listed_pipeline_data pipelines) ≡ false
-pipelines_have_none = items listed_pipeline_data (λ p. refl)
-
 pub told_have_none : (claims : List Claim) (project : ℕ) (runners : List Runner) (needs : List Need) (attempts : List Attempt) (jobs : List Job) (facts : List Facts) (rows : List Row)
     → items_have_float (items_of (told_jobs claims project runners needs attempts jobs facts rows)) ≡ false
 told_have_none claims project runners needs attempts [] facts rows = refl
@@ -60,6 +55,3 @@ told_have_none claims project runners needs attempts (j ∷ js) (f ∷ facts) (r
     λ i. (items (attempt_data runners) (attempt_has_none runners) (attempts_among attempts j.id) i
     || (items (λ n. number (unsigned n)) (λ n. refl) (needs_among needs j.id) i || (text_has_none j.options.resource_group i || (items string (λ t. refl) j.options.tags i || false))))
     || told_have_none claims project runners needs attempts js facts rows i
-
-pub groups_have_none : (groups : List ToldGroup) → has_float (listed told_group groups) ≡ false
-groups_have_none = items told_group (λ g. ap (λ b. b || false) (number_has_none g.holder))

@@ -1,8 +1,9 @@
 -- Objects of JSON, as far as they are made, and a part of one.
-use Rattle.std.specs.Prelude.{List, map, codes}
+use Rattle.std.specs.Prelude.{◌≡◌, ℕ, false, List, map, codes, Option, Some, None, refl}
 use Rattle.serde_json.specs.Data.{Data, Members, array, object, member, no_members, string, number, unsigned}
 use Rattle.serde_json.specs.View.{members_view, items_of}
-use Rattle.ci_machine_steps.specs.Prelude.{QueuedJob, Runner, Attempt, Need, Job, attempt_data, group_data, listed, needs_among, text_or_null}
+use Rattle.serde_json.specs.Written.{has_float}
+use Rattle.ci_machine_steps.specs.Prelude.{QueuedJob, Runner, Attempt, Need, Job, attempt_data, group_data, listed, needs_among, text_or_null, GroupOrder}
 use Rattle.ci_machine.specs.Listings.{attempts_among}
 use Rattle.ci_machine_plans.specs.declared.object.Object.{Object}
 use Rattle.ci_machine_plans.specs.declared.listed_jobs.ToldGroup.{ToldGroup}
@@ -28,3 +29,8 @@ around_members runners needs attempts j =
 -- a resource group with its process mode, and the job whose live attempt holds it
 abbrev pub told_group : ToldGroup → Data
 told_group g = group_data g.key g.order g.holder
+
+-- what is told of a resource group has no float
+pub group_is_plain : (key : List ℕ) (order : Option GroupOrder) (holder : Option ℕ) → has_float (group_data key order holder) ≡ false
+group_is_plain key order None = refl
+group_is_plain key order (Some n) = refl

@@ -5,10 +5,10 @@ ghost use Rattle.std.specs.Prelude.{◌≡◌, length, IfOk};
 ghost use Rattle.serde_json.specs.Data.{array, number, unsigned};
 ghost use Rattle.serde_json.specs.View.{view, items_of};
 ghost use Rattle.ci_machine_steps.specs.Prelude.{listed, text_or_null, needs_among, told_job, told_jobs, json};
-ghost use Rattle.ci_machine_plans.specs.Objects.{members_of, around_members, told_group};
+ghost use Rattle.ci_machine_plans.specs.Objects.{members_of, around_members};
 
 use crate::body::lines;
-use crate::listings::{attempts_value_of, body_of, number_or_null};
+use crate::listings::{Listed, attempts_value_of, body_of, number_or_null};
 use crate::object::Object;
 use ci_board::effect::is_allowed;
 use ci_board::facts::{Facts, Row};
@@ -136,31 +136,17 @@ pub fn jobs(
     body_of(alloc, told)
 }
 
-/// A resource group.
-fn group_value(alloc: Global, group: &ToldGroup) -> Result<Value, AllocError>
-    ensures { IfOk result (λ v. view v ≡ told_group group.now) }
-{
-    let told = Object::new(alloc).with(alloc, "holder", number_or_null(group.holder))?;
-    let told = told.with_text(alloc, "key", group.key.as_str())?;
-    let told = told.with_text(alloc, "process_mode", process_mode(group.order))?;
-    Ok(told.into_value())
-}
+impl Listed for ToldGroup {
+    ghost use Rattle.ci_machine_plans.specs.Objects.{told_group, group_is_plain};
 
-/// Resource groups, one after the other.
-fn groups_value(alloc: Global, groups: &[ToldGroup]) -> Result<Value, AllocError>
-    ensures { IfOk result (λ v. view v ≡ listed told_group groups.now) }
-{
-    let mut items = Vec::new(alloc);
-    for group in groups {
-        items.push(group_value(alloc, group)?)?;
+    ghost as_data = { told_group };
+
+    ghost plain = { λ g. group_is_plain g.key g.order g.holder };
+
+    fn value(&self, alloc: Global) -> Result<Value, AllocError> {
+        let told = Object::new(alloc).with(alloc, "holder", number_or_null(self.holder))?;
+        let told = told.with_text(alloc, "key", self.key.as_str())?;
+        let told = told.with_text(alloc, "process_mode", process_mode(self.order))?;
+        Ok(told.into_value())
     }
-    Ok(Value::Array(items))
-}
-
-/// The body that tells these resource groups. Errors: memory was refused.
-pub fn groups(alloc: Global, groups: &[ToldGroup]) -> Result<Body, AllocError>
-    ensures { IfOk result (λ body. body ≡ json (listed told_group groups.now)) }
-{
-    let told = groups_value(alloc, groups)?;
-    body_of(alloc, told)
 }

@@ -4,7 +4,7 @@ ghost use Rattle.std.specs.Prelude.{◌≡◌, false, find, map, ◌==◌, codes
 ghost use Rattle.serde_json.specs.Data.{array, member, no_members};
 ghost use Rattle.serde_json.specs.View.{view, items_of};
 ghost use Rattle.serde_json.specs.Written.{compact_text, has_float};
-ghost use Rattle.ci_machine_steps.specs.Prelude.{number_or_null, text_or_null, listed, project_data, is_tag, listed_pipeline_data, exit_of, reason_of, runner_or_null};
+ghost use Rattle.ci_machine_steps.specs.Prelude.{number_or_null, text_or_null, listed, project_data, is_tag, exit_of, reason_of, runner_or_null};
 ghost use Rattle.ci_machine_steps.specs.Prelude.{attempt_data};
 ghost use Rattle.ci_machine.specs.Listings.{attempts_among};
 ghost use Rattle.ci_machine_steps.specs.Reads as reads;
@@ -20,6 +20,24 @@ use ci_machine::reply::{Body, Code, JobStatus, Reply};
 use ci_machine::text::Text;
 use serde_json::{Number, Value};
 use std::alloc::{AllocError, Global};
+
+/// What is told in a list.
+pub trait Listed {
+    ghost use Rattle.std.specs.Prelude.{◌≡◌, false, IfOk};
+    ghost use Rattle.serde_json.specs.Data.{Data};
+    ghost use Rattle.serde_json.specs.View.{view};
+    ghost use Rattle.serde_json.specs.Written.{has_float};
+
+    /// What is told of one.
+    ghost as_data: { Self → Data };
+
+    /// One, as it is told. Errors: memory was refused.
+    fn value(&self, alloc: Global) -> Result<Value, AllocError>
+        ensures { IfOk result (λ v. view v ≡ as_data self.now) };
+
+    /// It has no float.
+    ghost plain: { (x : Self) → has_float (as_data x) ≡ false };
+}
 
 /// A number, or null where there is none.
 pub(crate) fn number_or_null(number: Option<u64>) -> Value
@@ -154,27 +172,33 @@ fn is_tag(kind: RefKind) -> bool
     }
 }
 
-/// A pipeline with its status.
-fn pipeline_value(alloc: Global, listed: &PipelineWithStatus) -> Result<Value, AllocError>
-    ensures { IfOk result (λ v. view v ≡ listed_pipeline_data listed.now) }
-{
-    let pipeline = &listed.pipeline;
-    let told = Object::new(alloc).with_moment(alloc, "created_at", pipeline.created)?;
-    let told = told.with_number(alloc, "id", pipeline.id)?;
-    let told = told.with_text(alloc, "ref", pipeline.git_ref.as_str())?;
-    let told = told.with_text(alloc, "source", pipeline.source.as_str())?;
-    let told = told.with_text(alloc, "status", listed.status.as_str())?;
-    let told = told.with_flag(alloc, "tag", is_tag(pipeline.kind))?;
-    Ok(told.into_value())
+impl Listed for PipelineWithStatus {
+    ghost use Rattle.std.specs.Prelude.{refl};
+    ghost use Rattle.ci_machine_steps.specs.Prelude.{listed_pipeline_data};
+
+    ghost as_data = { listed_pipeline_data };
+
+    ghost plain = { λ _. refl };
+
+    fn value(&self, alloc: Global) -> Result<Value, AllocError> {
+        let pipeline = &self.pipeline;
+        let told = Object::new(alloc).with_moment(alloc, "created_at", pipeline.created)?;
+        let told = told.with_number(alloc, "id", pipeline.id)?;
+        let told = told.with_text(alloc, "ref", pipeline.git_ref.as_str())?;
+        let told = told.with_text(alloc, "source", pipeline.source.as_str())?;
+        let told = told.with_text(alloc, "status", self.status.as_str())?;
+        let told = told.with_flag(alloc, "tag", is_tag(pipeline.kind))?;
+        Ok(told.into_value())
+    }
 }
 
-/// These pipelines, each with its status.
-fn pipelines_value(alloc: Global, pipelines: &[PipelineWithStatus]) -> Result<Value, AllocError>
-    ensures { IfOk result (λ v. view v ≡ listed listed_pipeline_data pipelines.now) }
+/// These, one after the other.
+fn list_value<T: Listed>(alloc: Global, all: &[T]) -> Result<Value, AllocError>
+    ensures { IfOk result (λ v. view v ≡ listed T.as_data all.now) }
 {
     let mut items = Vec::new(alloc);
-    for pipeline in pipelines {
-        items.push(pipeline_value(alloc, pipeline)?)?;
+    for one in all {
+        items.push(one.value(alloc)?)?;
     }
     Ok(Value::Array(items))
 }
@@ -196,19 +220,19 @@ pub fn project(alloc: Global, project: &Project) -> Result<Body, AllocError>
     body_of(alloc, value)
 }
 
-/// The body that lists pipelines, each with its status, in the order of the slice. Errors: memory was refused.
-pub fn pipelines(alloc: Global, pipelines: &[PipelineWithStatus]) -> Result<Body, AllocError>
-    ensures { IfOk result (λ body. body ≡ reads.json (listed listed_pipeline_data pipelines.now)) }
-{
-    let value = pipelines_value(alloc, pipelines)?;
-    body_of(alloc, value)
-}
-
 /// The body that lists attempts of these runners, in the order of the slice. Errors: memory was refused.
 pub fn attempts(alloc: Global, runners: &[Runner], attempts: &[Attempt]) -> Result<Body, AllocError>
     ensures { IfOk result (λ body. body ≡ reads.json (listed (attempt_data runners.now) attempts.now)) }
 {
     let value = attempts_value(alloc, runners, attempts)?;
+    body_of(alloc, value)
+}
+
+/// The body that lists these, in the order of the slice. Errors: memory was refused.
+pub fn list<T: Listed>(alloc: Global, all: &[T]) -> Result<Body, AllocError>
+    ensures { IfOk result (λ body. body ≡ reads.json (listed T.as_data all.now)) }
+{
+    let value = list_value(alloc, all)?;
     body_of(alloc, value)
 }
 

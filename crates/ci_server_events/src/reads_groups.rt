@@ -14,7 +14,8 @@ use ci_machine::choose::order_of;
 use ci_machine::records::{Attempt, GroupMode, Holder, Project};
 use ci_machine::reply::{Body, Code};
 use ci_machine::text::Text;
-use ci_machine_plans::listed_jobs::{self, ToldGroup};
+use ci_machine_plans::listed_jobs::ToldGroup;
+use ci_machine_plans::listings;
 use ci_store::fault::StoreFault;
 use ci_store::store::Store;
 use std::alloc::Global;
@@ -39,7 +40,7 @@ pub(crate) fn groups<T: Store>(
         modes.as_slice(),
         names.as_slice(),
     )?;
-    let body = listed_jobs::groups(alloc, groups.as_slice())?;
+    let body = listings::list(alloc, groups.as_slice())?;
     Ok(Ok(body))
 }
 

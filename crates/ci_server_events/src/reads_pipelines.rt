@@ -29,7 +29,7 @@ pub(crate) fn pipelines<T: Store>(
         (λ k body. IsKept k → body ≡ machine.read_subject k.state k.board project.now subject.Pipelines) }
 {
     let listed = listed_pipelines(alloc, store, project.id)?;
-    Ok(Ok(listings::pipelines(alloc, listed.as_slice())?))
+    Ok(Ok(listings::list(alloc, listed.as_slice())?))
 }
 
 /// The newest pipelines of the project with this number, newest first, each with its status.
