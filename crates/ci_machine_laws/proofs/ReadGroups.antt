@@ -10,8 +10,7 @@ use Rattle.ci_machine_steps.specs.Prelude.{IsReached}
 use Rattle.ci_machine_laws.specs.Reads.{IsHeldBy, IsModeOf, AreGroups, IsHolder, TellsGroups}
 use Rattle.ci_machine_laws.proofs.EachPlan.{read_told}
 use Rattle.ci_machine_laws.proofs.Numbers.{sound_reached, in_order, ascend}
-use Rattle.ci_machine_laws.proofs.Linked.{has_self}
-use Rattle.ci_machine_laws.proofs.Sweeps.{find_none}
+use Rattle.ci_machine.proofs.Found.{found_none, placed_here}
 
 -- ---- names, each once
 
@@ -21,7 +20,7 @@ text_cmp a b = slice_cmp nat_cmp a b
 put_still : (x y : List ℕ) (names : List (List ℕ)) → Has y names → Has y (put text_cmp x names)
 put_still x y names k =
     ⊎_elim
-    (λ t. subst (λ w. Has w (put text_cmp x names)) (sym ((bytes_eq-Decides y x).0 (sym (is_eq-slice_cmp y x) ∙ t))) (has_self text_cmp x _))
+    (λ t. subst (λ w. Has w (put text_cmp x names)) (sym ((bytes_eq-Decides y x).0 (sym (is_eq-slice_cmp y x) ∙ t))) (placed_here text_cmp x _))
     (λ f. put_has text_cmp x y names k (ap not f))
     (cases_Bool (is_eq (text_cmp y x)))
 
@@ -42,7 +41,7 @@ names_come : (y : List ℕ) (xs names : List (List ℕ)) → Has y xs → Has y 
 names_come y [] names k = absurd k
 names_come y (x ∷ xs) names k =
     ⊎_elim
-    (λ e. names_still y xs (put text_cmp x names) (subst (λ w. Has w (put text_cmp x names)) (sym e) (has_self text_cmp x _)))
+    (λ e. names_still y xs (put text_cmp x names) (subst (λ w. Has w (put text_cmp x names)) (sym e) (placed_here text_cmp x _)))
     (λ m. names_come y xs (put text_cmp x names) m) k
 
 -- ---- the names of modes
@@ -151,7 +150,7 @@ module _ (s : State) (project : ℕ) where
   by_holder : Rising (λ (a : Attempt). a.id) 0 s.attempts → (g : List ℕ) (found : Option Holder) → find (holds project g) (holders s) ≡ found
       → IsHolder s project g (option_map (λ (a : Attempt). a.job) (option_and_then (λ (h : Holder). attempt_at s h.attempt) found))
   by_holder rise g None none = λ a w.
-      let at = holder_is g a w in both_ways (holds project g at.0) (find_none (holds project g) at.0 (holders s) none at.1.0) (so_holds g at.0 at.1.1)
+      let at = holder_is g a w in both_ways (holds project g at.0) (found_none (holds project g) at.0 (holders s) none at.1.0) (so_holds g at.0 at.1.1)
   by_holder rise g (Some h) found =
       let its = has_find (holds project g) h (holders s) found in
       let at = attempt_is g h its.0 (holds_so g h its.1) in
