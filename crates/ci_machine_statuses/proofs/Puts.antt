@@ -5,7 +5,7 @@ use Rattle.std.proofs.lemmas.Bool.{cond_both, cond-true, cond-false}
 use Rattle.std.proofs.lemmas.List.{append-nil, map-id}
 use Rattle.std.proofs.lemmas.List.Elements.{filter-append}
 use Rattle.ci_machine_steps.specs.Prelude.{Job, Attempt, BoardRow, placed, others, put, row_cmp, row_for, row_or_none}
-use Rattle.ci_machine.proofs.Keyed.{Has, Rising, rising_from, unequal, equal, less, has_filter, map_has, filter_same}
+use Rattle.ci_machine.proofs.Keyed.{Has, Rising, rising_from, unequal, equal, less, has_filter, map_has}
 use Rattle.ci_machine.proofs.Filters.{filter_all}
 use Rattle.ci_machine.proofs.Found.{put_other, put_same}
 use Rattle.ci_machine_steps.proofs.Behind.{put_all, put_behind, nat_less}
@@ -39,18 +39,6 @@ more_in p xs x e = filter-append p xs (x ∷ []) ∙ ap (λ l. filter p xs ++ l)
 
 pub more_out : {A : Type 0} (p : A → Bool) (xs : List A) (x : A) → p x ≡ false → filter p (xs ++ x ∷ []) ≡ filter p xs
 more_out p xs x e = filter-append p xs (x ∷ []) ∙ (ap (λ l. filter p xs ++ l) (cond-false (p x) (x ∷ []) [] e) ∙ append-nil (filter p xs))
-
--- what passes by what it is mapped to
-pub map_filter : {A B : Type 0} (f : A → B) (p : B → Bool) (xs : List A) → map f (filter (λ x. p (f x)) xs) ≡ filter p (map f xs)
-map_filter f p [] = refl
-map_filter f p (x ∷ xs) =
-    cond_both (p (f x)) (x ∷ filter (λ y. p (f y)) xs) (filter (λ y. p (f y)) xs) (λ l. map f l ≡ filter p (f x ∷ map f xs))
-    (λ e. cons_same refl (map_filter f p xs) ∙ sym (cond-true (p (f x)) (f x ∷ filter p (map f xs)) (filter p (map f xs)) e))
-    (λ e. map_filter f p xs ∙ sym (cond-false (p (f x)) (f x ∷ filter p (map f xs)) (filter p (map f xs)) e))
-
--- a change that a test doesn't see leaves what passes it
-pub filter-map : {A : Type 0} (p : A → Bool) (f : A → A) (xs : List A) → ((x : A) → Has x xs → p (f x) ≡ p x) → filter p (map f xs) ≡ map f (filter p xs)
-filter-map p f xs h = sym (map_filter f p xs) ∙ ap (map f) (filter_same (λ x. p (f x)) p xs h)
 
 -- ---- puts
 
