@@ -3,5 +3,4 @@ pub mod Within
 pub mod Planned
 pub mod Rising
 pub mod Searching
-pub mod Deciding
 pub mod FirstLayers

@@ -1,6 +1,5 @@
 -- In a list that never falls nothing is below behind the first number that isn't.
-use Rattle.std.proofs.Common.{◌≡◌, ◌<◌, ◌≤◌, ◌+◌, ℕ, zero, suc, Bool, true, false, List, [], ◌∷◌, drop, length, get_or, nat_lt, refl, sym, ap, ◌∙◌, ◌++◌, map, arith}
-use Rattle.std.proofs.lemmas.List.{append-nil}
+use Rattle.std.proofs.Common.{◌≡◌, ◌<◌, ◌≤◌, ◌+◌, ℕ, zero, suc, Bool, true, false, List, [], ◌∷◌, drop, length, get_or, nat_lt, refl, arith}
 use Rattle.std.proofs.lemmas.Bool.{cond_both, ltb-true, ltb-false, false≢true}
 use Rattle.ci_graph_layout.specs.Prelude.{below, never_falls_from}
 
@@ -29,9 +28,3 @@ none_from own least k zero (n ∷ ns) h l m =
     (λ f. let p : n < own = ltb-true n own f in absurd (omega arith))
     (λ f. none_below own n (k + 1) ns m (rest least n ns h))
 none_from own least k (suc i) (n ∷ ns) h l m = none_from own n k i ns (rest least n ns h) (omega arith) m
-
-pub ended : (job own i : ℕ) (ranks : List ℕ) (pairs olds : List (ℕ × ℕ)) → below own i (drop i ranks) ≡ []
-    → pairs ++ map (λ p. (p, job)) (below own i (drop i ranks)) ≡ olds ++ map (λ p. (p, job)) (below own 0 ranks)
-    → pairs ≡ olds ++ map (λ p. (p, job)) (below own 0 ranks)
-ended job own i ranks pairs olds none e =
-    sym (append-nil pairs) ∙ ap (λ (xs : List ℕ). pairs ++ map (λ p. (p, job)) xs) (sym none) ∙ e

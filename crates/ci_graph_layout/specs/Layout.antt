@@ -2,8 +2,8 @@
 use Rattle.std.specs.Prelude.{ℕ, suc, ◌+◌, Bool, List, [], ◌∷◌, ◌++◌, if◌then◌else◌, filter, map, Option, Some, None, nat_lt}
 use Rattle.std.specs.Str.{bytes_eq}
 use Rattle.ci_config.specs.Config.{Text}
-use Rattle.ci_config.specs.Prelude.{Need, Job, Config}
-use Rattle.ci_graph_layout.specs.Inclusion.{Given, Decided, IncludedJob, by_rules, included}
+use Rattle.ci_config.specs.Prelude.{Need, Config}
+use Rattle.ci_graph_layout.specs.Inclusion.{Given, Decided, IncludedJob, by_rules, decided}
 
 -- ---- the order
 
@@ -13,29 +13,20 @@ put None xs = xs
 put (Some x) xs = x ∷ xs
 
 -- the included jobs of these, in their order
-abbrev pub all_included : Given → Config → List Job → List IncludedJob
-all_included g c [] = []
-all_included g c (j ∷ js) = put (included g c j) (all_included g c js)
+abbrev pub all_included : List Decided → List IncludedJob
+all_included [] = []
+all_included (d ∷ ds) = put (by_rules d.job d.decision) (all_included ds)
 
-abbrev pub is_of : Text → Job → Bool
-is_of stage j = bytes_eq j.stage stage
+abbrev pub is_of : Text → Decided → Bool
+is_of stage d = bytes_eq d.job.stage stage
 
--- stage by stage, and in each stage by the file
-abbrev pub by_stage : Given → Config → List Text → List IncludedJob
-by_stage g c [] = []
-by_stage g c (stage ∷ stages) = all_included g c (filter (is_of stage) c.jobs) ++ by_stage g c stages
+-- stage by stage, and in each stage in their order
+abbrev pub by_stage : List Decided → List Text → List IncludedJob
+by_stage ds [] = []
+by_stage ds (stage ∷ stages) = all_included (filter (is_of stage) ds) ++ by_stage ds stages
 
 abbrev pub lineup : Given → Config → List IncludedJob
-lineup g c = by_stage g c c.stages
-
--- the same, of jobs of which is known what decides
-abbrev pub all_ruled : List Decided → List IncludedJob
-all_ruled [] = []
-all_ruled (d ∷ ds) = put (by_rules d.job d.decision) (all_ruled ds)
-
-abbrev pub ruled_by_stage : List Decided → List Text → List IncludedJob
-ruled_by_stage ds [] = []
-ruled_by_stage ds (stage ∷ stages) = all_ruled (filter (λ d. is_of stage d.job) ds) ++ ruled_by_stage ds stages
+lineup g c = by_stage (decided g c) c.stages
 
 -- ---- who waits for whom
 

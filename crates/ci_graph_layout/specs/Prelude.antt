@@ -5,8 +5,7 @@ pub use Rattle.ci_graph_layout.specs.Fault.{planned, waits_for_later}
 pub use Rattle.ci_graph_layout.specs.Inclusion.{ByRule, Decided, Decision, Given, IncludedJob, NoRules, NoneMatches, by_rules, decided, decided_job, decision, deciding, holds, included, layered, names}
 pub use Rattle.ci_graph_layout.specs.Inclusion.{own_names, ruled, seen, without_rules}
 pub use Rattle.ci_graph_layout.specs.Layering.{layers_of}
-pub use Rattle.ci_graph_layout.specs.Layout.{all_included, all_ruled, below, by_needs, by_stage, is_of, lineup, needed, pairs, pairs_from, place_from, place_of, predecessors, put, rank}
-pub use Rattle.ci_graph_layout.specs.Layout.{ranks, ruled_by_stage}
+pub use Rattle.ci_graph_layout.specs.Layout.{all_included, below, by_needs, by_stage, is_of, lineup, needed, pairs, pairs_from, place_from, place_of, predecessors, put, rank, ranks}
 pub use Rattle.ci_graph_layout.specs.Parts.{CanBeGraph, job_part, parts}
 pub use Rattle.ci_graph_layout.specs.Places.{IsLineup, IsPlaced, jobs_of, never_falls_from, stages_of}
 pub use Rattle.ci_graph_layout.specs.Plans.{Orders, plan_view}

@@ -14,60 +14,60 @@ use std::alloc::{AllocError, Global};
 /// A position of a predecessor, and that of the job that waits for it.
 pub type Pairs = Vec<(usize, usize)>;
 
-/// Puts a pair behind those that are there for each job of lower rank. Where the ranks never fall these stand first.
-fn put_below(
-    pairs: &mut Pairs,
-    ranks: &[usize],
-    in_order: bool,
-    own: usize,
-    job: usize,
-) -> Result<(), AllocError>
-    requires { in_order ≡ never_falls_from 0 ranks.now }
-    ensures { OnOk result (pairs.new.items ≡ pairs.old.items ++ map (λ i. (i, job)) (below own 0 ranks.now)) }
+/// Puts a pair behind those that are there for each of these positions of predecessors.
+fn put_pairs(pairs: &mut Pairs, places: &[usize], job: usize) -> Result<(), AllocError>
+    ensures { OnOk result (pairs.new.items ≡ pairs.old.items ++ map (λ i. (i, job)) places.now) }
 {
-    for (i, other) in ranks.iter().enumerate() {
-        if *other < own {
-            pairs.push((i, job))?;
-        } else if in_order {
-            return Ok(());
-        }
+    for place in places {
+        pairs.push((*place, job))?;
     }
     Ok(())
 }
 
+/// The positions of the jobs of lower rank. Where the ranks never fall these stand first.
+fn below(
+    alloc: Global,
+    ranks: &[usize],
+    in_order: bool,
+    own: usize,
+) -> Result<Vec<usize>, AllocError>
+    requires { in_order ≡ never_falls_from 0 ranks.now }
+    ensures { IfOk result (λ places. places.items ≡ below own 0 ranks.now) }
+{
+    let mut places = Vec::new(alloc);
+    for (i, other) in ranks.iter().enumerate() {
+        if *other < own {
+            places.push(i)?;
+        } else if in_order {
+            return Ok(places);
+        }
+    }
+    Ok(places)
+}
+
 impl<'a, 't> Lineup<'a, 't> {
-    /// Puts a pair behind those that are there for each need that is included.
-    fn put_needed(&self, pairs: &mut Pairs, needs: &[Need], job: usize) -> Result<(), AllocError>
+    /// The positions of those that the needs name, if they are included.
+    fn needed(&self, alloc: Global, needs: &[Need]) -> Result<Vec<usize>, AllocError>
         requires { IsPlaced self.now }
-        ensures { OnOk result (pairs.new.items ≡ pairs.old.items ++ map (λ i. (i, job)) (needed (jobs_of self.now) (map need_view needs.now))) }
+        ensures { IfOk result (λ places. places.items ≡ needed (jobs_of self.now) (map need_view needs.now)) }
     {
+        let mut places = Vec::new(alloc);
         for need in needs {
             if let Some(place) = self.place_of(need.job) {
-                pairs.push((place, job))?;
+                places.push(place)?;
             }
         }
-        Ok(())
+        Ok(places)
     }
 
-    /// Puts a pair behind those that are there for each predecessor of a job.
-    pub fn put_predecessors(
-        &self,
-        pairs: &mut Pairs,
-        job: &IncludedJob,
-        position: usize,
-    ) -> Result<(), AllocError>
+    /// The positions of a job's predecessors.
+    pub fn predecessors(&self, alloc: Global, job: &IncludedJob) -> Result<Vec<usize>, AllocError>
         requires { IsPlaced self.now }
-        ensures { OnOk result (pairs.new.items ≡ pairs.old.items ++ map (λ i. (i, position)) (predecessors (stages_of self.now) (jobs_of self.now) (included_view job.now))) }
+        ensures { IfOk result (λ places. places.items ≡ predecessors (stages_of self.now) (jobs_of self.now) (included_view job.now)) }
     {
         match &job.job.needs {
-            Some(needs) => self.put_needed(pairs, needs, position),
-            None => put_below(
-                pairs,
-                &self.ranks,
-                self.in_order,
-                self.rank_of(job),
-                position,
-            ),
+            Some(needs) => self.needed(alloc, needs),
+            None => below(alloc, &self.ranks, self.in_order, self.rank_of(job)),
         }
     }
 
@@ -79,7 +79,8 @@ impl<'a, 't> Lineup<'a, 't> {
     {
         let mut found = Vec::new(alloc);
         for (i, job) in self.jobs.iter().enumerate() {
-            self.put_predecessors(&mut found, job, i)?;
+            let places = self.predecessors(alloc, job)?;
+            put_pairs(&mut found, &places, i)?;
         }
         Ok(found)
     }

@@ -39,6 +39,18 @@ filter_both p q both (x ∷ xs) h =
     (λ e. let w : q x ≡ both x = sym (h x ∙ ap (λ t. t && q x) e) in let rest = filter_both p q both xs h in λ i. cond (w i) (x ∷ rest i) (rest i))
     (λ e. filter_both p q both xs h ∙ sym (cond-false (both x) (x ∷ filter both xs) (filter both xs) (h x ∙ ap (λ t. t && q x) e)))
 
+-- what passes by what it is mapped to
+pub map_filter : {A B : Type 0} (f : A → B) (p : B → Bool) (xs : List A) → map f (filter (λ x. p (f x)) xs) ≡ filter p (map f xs)
+map_filter f p [] = refl
+map_filter f p (x ∷ xs) =
+    cond_both (p (f x)) (x ∷ filter (λ y. p (f y)) xs) (filter (λ y. p (f y)) xs) (λ l. map f l ≡ filter p (f x ∷ map f xs))
+    (λ e. ap (λ l. f x ∷ l) (map_filter f p xs) ∙ sym (cond-true (p (f x)) (f x ∷ filter p (map f xs)) (filter p (map f xs)) e))
+    (λ e. map_filter f p xs ∙ sym (cond-false (p (f x)) (f x ∷ filter p (map f xs)) (filter p (map f xs)) e))
+
+-- a change that a test doesn't see leaves what passes it
+pub filter-map : {A : Type 0} (p : A → Bool) (f : A → A) (xs : List A) → ((x : A) → Has x xs → p (f x) ≡ p x) → filter p (map f xs) ≡ map f (filter p xs)
+filter-map p f xs h = sym (map_filter f p xs) ∙ ap (map f) (filter_same (λ x. p (f x)) p xs h)
+
 -- ---- records that go by their numbers
 
 -- a number is compared as it is tested

@@ -258,3 +258,12 @@ named_contains id n xs c = map_has id n xs (has_from_contains n (map id xs) c)
 pub filter_same : {A : Type 0} (p q : A → Bool) (xs : List A) → ((x : A) → Has x xs → p x ≡ q x) → filter p xs ≡ filter q xs
 filter_same p q [] h = refl
 filter_same p q (x ∷ xs) h = λ i. cond (h x (inl refl) i) (x ∷ filter_same p q xs (λ y k. h y (inr k)) i) (filter_same p q xs (λ y k. h y (inr k)) i)
+
+-- records rise as their numbers do
+pub map_rises : {A : Type 0} (id : A → ℕ) (low : ℕ) (xs : List A) → Rising id low xs → Rising (λ n. n) low (map id xs)
+map_rises id low [] r = tt
+map_rises id low (x ∷ xs) r = (r.0, map_rises id (id x + 1) xs r.1)
+
+pub rises_from_map : {A : Type 0} (id : A → ℕ) (low : ℕ) (xs : List A) → Rising (λ n. n) low (map id xs) → Rising id low xs
+rises_from_map id low [] r = tt
+rises_from_map id low (x ∷ xs) r = (r.0, rises_from_map id (id x + 1) xs r.1)

@@ -1,12 +1,13 @@
 -- A state in which jobs and attempts stand otherwise, each in its place: the graphs of its pipelines are the same, and so is the status of each
 -- pipeline whose jobs have the facts that they had.
-use Rattle.ci_machine_laws.proofs.Prelude.{◌≡◌, ℕ, zero, suc, ◌-◌, ◌<◌, Bool, ◌==◌, ◌||◌, not, if◌then◌else◌, List, [], ◌∷◌, length, map, filter, option_map, None, refl, sym, ap}
-use Rattle.ci_machine_laws.proofs.Prelude.{subst, ◌∙◌, inl, inr, arith, map-id, last_or, cond_both, cond-true, cond-false, length-map, Part, JobGraph, Has, has_filter}
+use Rattle.ci_machine_laws.proofs.Prelude.{◌≡◌, ℕ, zero, suc, ◌-◌, ◌<◌, Bool, ◌==◌, ◌||◌, not, if◌then◌else◌, List, [], length, map, option_map, None, refl, sym, ap}
+use Rattle.ci_machine_laws.proofs.Prelude.{subst, ◌∙◌, arith, map-id, last_or, length-map, Part, JobGraph, Has, has_filter}
 use Rattle.ci_machine_steps.specs.Prelude.{Facts, Status, statuses, facts_at, IsAssignment, is_status, some_job, has_status, has_strict, has_attempt, pipeline_status, Attempt}
 use Rattle.ci_machine_steps.specs.Prelude.{BoardRow, Job, JobOptions, Pipeline, State, jobs_of, numbers_of, attempts_of, pairs_among, predecessors_by, graph_of, facts_in}
 use Rattle.ci_machine_steps.specs.Prelude.{facts_of, rows_of, AreBoard, is_open_in, is_unfinished, HasOneBoard}
 use Rattle.ci_machine_laws.proofs.PutAll.{map_twice}
 use Rattle.ci_machine_laws.proofs.Finished.{map_same}
+use Rattle.ci_machine.proofs.Filters.{filter-map}
 
 abbrev pub altered : State → (Job → Job) → (Attempt → Attempt) → State
 altered s of_job of_attempt = record s { jobs = map of_job s.jobs; attempts = map of_attempt s.attempts }
@@ -17,15 +18,6 @@ pub record Alters (s : State) (of_job : Job → Job) (of_attempt : Attempt → A
   pub pipeline : (j : Job) → Has j s.jobs → (of_job j).pipeline ≡ j.pipeline
   pub options : (j : Job) → Has j s.jobs → (of_job j).options ≡ j.options
   pub job : (a : Attempt) → Has a s.attempts → (of_attempt a).job ≡ a.job
-
-pub filter_mapped : {A : Type 0} (p : A → Bool) (f : A → A) (xs : List A) → ((x : A) → Has x xs → p (f x) ≡ p x) → filter p (map f xs) ≡ map f (filter p xs)
-filter_mapped p f [] h = refl
-filter_mapped p f (x ∷ xs) h =
-    let e : p (f x) ≡ p x = h x (inl refl) in
-    let rest = filter_mapped p f xs (λ y k. h y (inr k)) in
-    cond_both (p x) (x ∷ filter p xs) (filter p xs) (λ l. filter p (map f (x ∷ xs)) ≡ map f l)
-    (λ t. cond-true (p (f x)) (f x ∷ filter p (map f xs)) (filter p (map f xs)) (e ∙ t) ∙ ap (λ l. f x ∷ l) rest)
-    (λ n. cond-false (p (f x)) (f x ∷ filter p (map f xs)) (filter p (map f xs)) (e ∙ n) ∙ rest)
 
 -- ---- the status of a pipeline by its jobs'
 
@@ -61,7 +53,7 @@ module _ (s : State) (of_job : Job → Job) (of_attempt : Attempt → Attempt) (
   t = altered s of_job of_attempt
 
   pub jobs_altered : (m : ℕ) → jobs_of t m ≡ map of_job (jobs_of s m)
-  jobs_altered m = filter_mapped (λ (j : Job). j.pipeline == m) of_job s.jobs (λ j k. ap (λ n. n == m) (alters.pipeline j k))
+  jobs_altered m = filter-map (λ (j : Job). j.pipeline == m) of_job s.jobs (λ j k. ap (λ n. n == m) (alters.pipeline j k))
 
   its_job : (m : ℕ) (j : Job) → Has j (jobs_of s m) → Has j s.jobs
   its_job m j k = (has_filter (λ (w : Job). w.pipeline == m) j s.jobs k).0
@@ -91,7 +83,7 @@ module _ (s : State) (of_job : Job → Job) (of_attempt : Attempt → Attempt) (
   facts_altered m = ap (map (facts_in t)) (jobs_altered m) ∙ sym (map_twice (facts_in t) of_job (jobs_of s m))
 
   pub attempts_altered : (n : ℕ) → attempts_of t n ≡ map of_attempt (attempts_of s n)
-  attempts_altered n = filter_mapped (λ (a : Attempt). a.job == n) of_attempt s.attempts (λ a k. ap (λ m. m == n) (alters.job a k))
+  attempts_altered n = filter-map (λ (a : Attempt). a.job == n) of_attempt s.attempts (λ a k. ap (λ m. m == n) (alters.job a k))
 
   -- a job that stands as it did, and so do its attempts
   pub facts_kept : (j : Job) → of_job j ≡ j → ((a : Attempt) → Has a (attempts_of s j.id) → of_attempt a ≡ a) → facts_in t (of_job j) ≡ facts_in s j

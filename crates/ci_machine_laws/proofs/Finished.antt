@@ -1,20 +1,17 @@
 -- A finished pipeline has no live attempt: once it is pruned, leases and resource groups stand as they did.
-use Rattle.ci_machine_laws.proofs.Prelude.{◌≡◌, ℕ, false, not, nat_lt, List, [], ◌∷◌, ◌++◌, map, flat_map, Option, Some, refl, ap, ◌∙◌, inl, inr, and_parts, not_true, Has}
+use Rattle.ci_machine_laws.proofs.Prelude.{◌≡◌, ℕ, false, not, nat_lt, List, [], ◌∷◌, map, flat_map, Option, Some, refl, ap, ◌∙◌, inl, inr, and_parts, not_true, Has}
 use Rattle.ci_machine_laws.proofs.Prelude.{has_filter, has_find, filter_implied, pruned_state, attempt_left, not_its, job_stands, Sound, sound}
 use Rattle.ci_machine_steps.specs.Prelude.{Lease, Pipeline, Job, Attempt, BoardRow, State, applied, jobs_of, AreBoard, is_live, is_open_in, held_of, holders, PruneOne, Seed}
 use Rattle.ci_machine_steps.specs.Prelude.{Plan, is_job_among, is_prunable, prunable_in, prune, without_pipeline, Does, limit_or_none, lease_of, leases, live_attempts, jobs_in}
 use Rattle.ci_machine_steps.specs.Prelude.{IsSound}
 use Rattle.ci_machine_laws.proofs.Groups.{held_left}
+use Rattle.ci_machine_steps.proofs.Behind.{flat_same}
 
 -- ---- what a prune leaves
 
 pub map_same : {A B : Type 0} (f g : A → B) (xs : List A) → ((x : A) → Has x xs → f x ≡ g x) → map f xs ≡ map g xs
 map_same f g [] e = refl
 map_same f g (x ∷ xs) e = λ i. e x (inl refl) i ∷ map_same f g xs (λ y k. e y (inr k)) i
-
-flat_same : {A B : Type 0} (f g : A → List B) (xs : List A) → ((x : A) → Has x xs → f x ≡ g x) → flat_map f xs ≡ flat_map g xs
-flat_same f g [] e = refl
-flat_same f g (x ∷ xs) e = λ i. e x (inl refl) i ++ flat_same f g xs (λ y k. e y (inr k)) i
 
 module _ (s : State) (board : List BoardRow) (p : Pipeline) (known : Sound s) (are : AreBoard s board) (finished : is_open_in s board p ≡ false) where
   live_left : live_attempts (without_pipeline s p.id) ≡ live_attempts s

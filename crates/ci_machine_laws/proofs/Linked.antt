@@ -1,12 +1,13 @@
 -- What a step leaves, and which records others name.
-use Rattle.ci_machine_laws.proofs.Prelude.{rules, ◌≡◌, ◌⊎◌, ℕ, ◌+◌, ◌<◌, ◌≤◌, Bool, ◌==◌, List, [], ◌∷◌, ◌++◌, length, map, filter, Ok, nat_cmp, is_lt, Ordering, refl, sym, ap}
-use Rattle.ci_machine_laws.proofs.Prelude.{subst, ◌∙◌, inl, inr, ⊎_elim, arith, cond_both, Given, Has, Rising, has_put, rising_put, has_find, has_map, one_at, Below, Named}
+use Rattle.ci_machine_laws.proofs.Prelude.{rules, ◌≡◌, ◌⊎◌, ℕ, ◌+◌, ◌<◌, ◌≤◌, Bool, ◌==◌, List, [], ◌∷◌, ◌++◌, length, map, filter, Ok, nat_cmp, refl, sym, ap}
+use Rattle.ci_machine_laws.proofs.Prelude.{subst, ◌∙◌, inl, inr, ⊎_elim, arith, Given, Has, Rising, has_put, rising_put, has_find, has_map, one_at, Below, Named}
 use Rattle.ci_machine_laws.proofs.Prelude.{nat_less, in_either, has_left, has_right, put_behind, put_all, has_all, created_state, new_length, IsNew, new_are, new_numbered}
 use Rattle.ci_machine_laws.proofs.Prelude.{needs_are, pairs_inside, jobs_behind}
 use Rattle.ci_machine_steps.specs.Prelude.{BoardRow, Need, Project, Runner, Pipeline, QueuedJob, Job, Attempt, RowChange, NewPipeline, Event, Seed, Answer, State, applied}
-use Rattle.ci_machine_steps.specs.Prelude.{placed, put, others, pipeline_cmp, job_cmp, need_cmp, attempt_cmp, attempts_of, Layout, IsLaidOut, creation, is_prunable, Happens}
+use Rattle.ci_machine_steps.specs.Prelude.{put, others, pipeline_cmp, job_cmp, need_cmp, attempt_cmp, attempts_of, Layout, IsLaidOut, creation, is_prunable, Happens}
 use Rattle.ci_machine_steps.specs.Prelude.{project_for_good, runner_for_good, job_for_good, attempt_for_good}
 use Rattle.ci_machine_laws.proofs.Counts.{passing, passing_mapped, passing_implied, passing_new}
+use Rattle.ci_machine.proofs.Found.{placed_here}
 use Rattle.ci_machine_laws.proofs.PutAll.{all_at, all_at_id, all_in_place, at_or}
 use Rattle.ci_machine_laws.proofs.Acts.{IsAct}
 use Rattle.ci_machine_laws.proofs.EachPlan.{given_in}
@@ -14,10 +15,6 @@ use Rattle.ci_machine_laws.proofs.EachNext.{EachNext, IsAside, project_made, run
 use Rattle.ci_machine_laws.proofs.Ends.{IsPruned}
 
 -- ---- lists
-
-pub has_self : {A : Type 0} (cmp : A → A → Ordering) (x : A) (xs : List A) → Has x (placed cmp x xs)
-has_self cmp x [] = inl refl
-has_self cmp x (z ∷ zs) = cond_both (is_lt (cmp z x)) (z ∷ placed cmp x zs) (x ∷ z ∷ zs) (λ l. Has x l) (λ _. inr (has_self cmp x zs)) (λ _. inl refl)
 
 -- each record of the one list is in the other, with what it has for good
 abbrev pub Kept : {A : Type 0} → (A → A) → List A → List A → Type 0
@@ -240,7 +237,7 @@ enters s new project given now text laid i has named lays =
     let jobs : t.jobs ≡ s.jobs ++ made.jobs = jobs_behind s is i.job_below in
     let cases : (j : Job) → Has j t.jobs → Has j s.jobs ⊎ IsNew s.next.pipeline s.next.job (0 + count) is j
     = λ j k. ⊎_elim (λ m. inl m) (λ m. inr (new_are s.next.pipeline s.next.job 0 is j m)) (in_either j s.jobs made.jobs (subst (Has j) jobs k)) in
-    let is_pipeline : Named pids s.next.pipeline t.pipelines = (made.pipeline, (has_self pipeline_cmp made.pipeline (others pipeline_cmp made.pipeline s.pipelines), refl)) in
+    let is_pipeline : Named pids s.next.pipeline t.pipelines = (made.pipeline, (placed_here pipeline_cmp made.pipeline (others pipeline_cmp made.pipeline s.pipelines), refl)) in
     let has_number : (k : ℕ) → k < count → Named ids (s.next.job + k) t.jobs
     = λ k l. let w = new_numbered s.next.pipeline s.next.job 0 is k (omega arith) (omega arith) in (w.0, (subst (Has w.0) (sym jobs) (has_right w.0 s.jobs made.jobs w.1.0), w.1.1)) in
     let within = pairs_inside text given laid lays in

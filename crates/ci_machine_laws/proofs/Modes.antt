@@ -1,11 +1,11 @@
 -- A request that sets the process mode of a resource group changes that of no other group, and nothing else; and no other event changes one.
-use Rattle.ci_machine_laws.proofs.Prelude.{cases_eq, false_from_ne_true, ne_eqb, not_true, rules, ◌≡◌, ℕ, Bool, true, false, cond, ◌==◌, ◌&&◌, not, List, [], ◌∷◌, filter, find}
-use Rattle.ci_machine_laws.proofs.Prelude.{Option, Some, None, option_map, Result, Ok, Err, Ordering, Equal, nat_cmp, is_eq, is_lt, refl, sym, ap, subst, ◌∙◌, inl, inr, ⊎_elim}
-use Rattle.ci_machine_laws.proofs.Prelude.{eqb-true, eq-eqb, bytes_eq, slice_cmp, cond_both, cond-true, cond-false, cases_Bool, both_ways, and_parts, bytes_eq-Decides, Has}
+use Rattle.ci_machine_laws.proofs.Prelude.{cases_eq, false_from_ne_true, ne_eqb, not_true, rules, ◌≡◌, ℕ, true, false, ◌==◌, ◌&&◌, not, List, [], ◌∷◌, filter, find}
+use Rattle.ci_machine_laws.proofs.Prelude.{Option, Some, None, option_map, Result, Ok, Err, Ordering, Equal, nat_cmp, is_eq, refl, sym, ap, subst, ◌∙◌, ⊎_elim}
+use Rattle.ci_machine_laws.proofs.Prelude.{eqb-true, eq-eqb, bytes_eq, slice_cmp, cases_Bool, both_ways, and_parts, bytes_eq-Decides, Has}
 use Rattle.ci_machine_laws.proofs.Prelude.{has_filter, same, equal, find_implied, ordering_then, is_eq-slice_cmp}
 use Rattle.ci_machine_steps.specs.Prelude.{BoardRow, Project, GroupMode, GroupOrder, NewMode, SetMode, Event, Seed, Answer, Code, State, placed, mode_cmp, applied, is_mode_of}
 use Rattle.ci_machine_steps.specs.Prelude.{Plan, mode_change, set_mode, Step, IsReached, IsRefusal}
-use Rattle.ci_machine_laws.proofs.Sweeps.{found_none}
+use Rattle.ci_machine.proofs.Found.{find_none, find_placed, find_placed_one}
 use Rattle.ci_machine_laws.specs.Modes.{SetsMode}
 use Rattle.ci_machine_laws.proofs.EachPlan.{Asked, of_asked, is_asked}
 use Rattle.ci_machine_laws.proofs.EachNext.{EachNext, IsAside, modes_are, next_is}
@@ -28,22 +28,6 @@ compared a b =
 has_key : (project : ℕ) (group : List ℕ) (m : GroupMode) → is_eq (ordering_then (nat_cmp m.project project) (slice_cmp nat_cmp m.group group)) ≡ is_mode_of project group m
 has_key project group m =
     then_equal (nat_cmp m.project project) (slice_cmp nat_cmp m.group group) ∙ (λ i. compared m.project project i && is_eq-slice_cmp m.group group i)
-
--- ---- what is found
-
-found_first : {A : Type 0} (p : A → Bool) (cmp : A → A → Ordering) (x : A) (xs : List A) → p x ≡ true → ((y : A) → Has y xs → p y ≡ false) → find p (placed cmp x xs) ≡ Some x
-found_first p cmp x [] is none = cond-true (p x) (Some x) None is
-found_first p cmp x (y ∷ ys) is none =
-    cond_both (is_lt (cmp y x)) (y ∷ placed cmp x ys) (x ∷ y ∷ ys) (λ l. find p l ≡ Some x)
-    (λ _. cond-false (p y) (Some y) (find p (placed cmp x ys)) (none y (inl refl)) ∙ found_first p cmp x ys is (λ z k. none z (inr k)))
-    (λ _. cond-true (p x) (Some x) (find p (y ∷ ys)) is)
-
-found_past : {A : Type 0} (p : A → Bool) (cmp : A → A → Ordering) (x : A) (xs : List A) → p x ≡ false → find p (placed cmp x xs) ≡ find p xs
-found_past p cmp x [] isnt = cond-false (p x) (Some x) None isnt
-found_past p cmp x (y ∷ ys) isnt =
-    cond_both (is_lt (cmp y x)) (y ∷ placed cmp x ys) (x ∷ y ∷ ys) (λ l. find p l ≡ find p (y ∷ ys))
-    (λ _. ap (λ o. cond (p y) (Some y) o) (found_past p cmp x ys isnt))
-    (λ _. cond-false (p x) (Some x) (find p (y ∷ ys)) isnt)
 
 -- ---- the modes of a state
 
@@ -81,7 +65,7 @@ own m = (λ i. eq-eqb m.project m.project refl i && (bytes_eq-Decides m.group m.
 sets : (s : State) (new : NewMode) (project : ℕ) → project ≡ new.project → (order : Option GroupOrder) → order ≡ new.order → SetsMode s (applied (mode_change project new.group order ∷ []) s) new
 sets s new project is None e = record {
   rest = refl;
-  its = ap (λ o. option_map (λ (m : GroupMode). m.order) o) (ap (λ n. find (is_mode_of n new.group) (left project new.group s.modes)) (sym is) ∙ found_none (is_mode_of project new.group) (left project new.group s.modes) (not_left project new.group s.modes)) ∙ e;
+  its = ap (λ o. option_map (λ (m : GroupMode). m.order) o) (ap (λ n. find (is_mode_of n new.group) (left project new.group s.modes)) (sym is) ∙ find_none (is_mode_of project new.group) (left project new.group s.modes) (not_left project new.group s.modes)) ∙ e;
   others = λ other name apart. ap (λ o. option_map (λ (m : GroupMode). m.order) o) (others_left project other new.group name (λ both. apart (both.0 ∙ is, both.1)) s.modes);
 }
 sets s new project is (Some order) e =
@@ -90,10 +74,10 @@ sets s new project is (Some order) e =
     record {
       rest = refl;
       its = ap (λ o. option_map (λ (w : GroupMode). w.order) o)
-          (ap (λ n. find (is_mode_of n new.group) (placed mode_cmp m rest)) (sym is) ∙ found_first (is_mode_of project new.group) mode_cmp m rest (own m) (not_left project new.group s.modes)) ∙ e;
+          (ap (λ n. find (is_mode_of n new.group) (placed mode_cmp m rest)) (sym is) ∙ find_placed_one mode_cmp (is_mode_of project new.group) m rest (own m) (not_left project new.group s.modes)) ∙ e;
       others = λ other name apart. let apart_from : (other ≡ project) × (name ≡ new.group) → ⊥ = λ both. apart (both.0 ∙ is, both.1) in
           ap (λ o. option_map (λ (w : GroupMode). w.order) o)
-          (found_past (is_mode_of other name) mode_cmp m rest (⊎_elim (λ t. absurd (both_ways (is_mode_of project new.group m) (not_of project other new.group name apart_from m t) (own m))) (λ f. f) (cases_Bool (is_mode_of other name m)))
+          (find_placed mode_cmp (is_mode_of other name) m rest (⊎_elim (λ t. absurd (both_ways (is_mode_of project new.group m) (not_of project other new.group name apart_from m t) (own m))) (λ f. f) (cases_Bool (is_mode_of other name m)))
           ∙ others_left project other new.group name apart_from s.modes);
     }
 

@@ -15,7 +15,7 @@ use Rattle.ci_machine_laws.specs.NoJob.MustWait.{held, older_first, newer_first}
 use Rattle.ci_machine_laws.specs.NoJob.IsNotFor.{paused, of_other, untagged, lacks_tag, waits}
 use Rattle.ci_machine_laws.proofs.Reached.{reached}
 use Rattle.ci_machine_laws.proofs.Linked.{Linked}
-use Rattle.ci_machine_laws.proofs.Sweeps.{find_none}
+use Rattle.ci_machine.proofs.Found.{found_none}
 use Rattle.ci_machine_laws.proofs.Groups.{only_one, job_found, pipeline_found}
 use Rattle.ci_machine_laws.proofs.OneBoard.{OneAssignment, one_board}
 use Rattle.ci_machine_laws.proofs.Held as every
@@ -254,7 +254,7 @@ no_job law s t token now seed reply is step none =
       none = subst (λ (b : List BoardRow). All (λ (job : Job). is_pending b job ≡ true → IsNotFor s b runner job) s.jobs) (one.only board step.are_before)
           (All-from_has (λ (job : Job). is_pending board job ≡ true → IsNotFor s board runner job) s.jobs (λ job k pending.
           not_for s board rise linked runner job k
-          (find_none (is_eligible runner (groups_in s board)) (queued s job) (queue s board) unchosen
+          (found_none (is_eligible runner (groups_in s board)) (queued s job) (queue s board) unchosen
           (has_map (queued s) job (pending_jobs s board) (filter_has (is_pending board) job s.jobs k pending)))));
     }
 

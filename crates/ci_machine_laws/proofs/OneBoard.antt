@@ -23,12 +23,9 @@ use Rattle.ci_machine_laws.proofs.AllLaws.{laws}
 use Rattle.ci_machine_laws.proofs.Joined.{by_numbers, Joined}
 use Rattle.ci_machine_laws.proofs.Held.{held}
 use Rattle.ci_machine_laws.proofs.Bounded.{IsWithinLimit, within_limit}
+use Rattle.ci_machine.proofs.Keyed.{map_rises, rises_from_map}
 
 -- ---- places of ascending numbers
-
-pub rising_numbers : {A : Type 0} (id : A → ℕ) (low : ℕ) (xs : List A) → Rising id low xs → Rising (λ n. n) low (map id xs)
-rising_numbers id low [] r = tt
-rising_numbers id low (x ∷ xs) r = (r.0, rising_numbers id (id x + 1) xs r.1)
 
 place_cons : (x : ℕ) (xs : List ℕ) (n : ℕ) → place_in (x ∷ xs) n ≡ cond {A = ℕ} (nat_lt x n) 1 0 + place_in xs n
 place_cons x xs n = sum_by-cons (λ m. cond (nat_lt m n) 1 0) x xs
@@ -86,7 +83,7 @@ module _ (s : State) (pipeline : ℕ) (rise : Rising (λ (j : Job). j.id) 0 s.jo
   ids j = j.id
 
   numbers_rise : Rising (λ n. n) 0 numbers
-  numbers_rise = rising_numbers ids 0 (jobs_of s pipeline) (rising_filter ids (λ (j : Job). j.pipeline == pipeline) 0 s.jobs rise)
+  numbers_rise = map_rises ids 0 (jobs_of s pipeline) (rising_filter ids (λ (j : Job). j.pipeline == pipeline) 0 s.jobs rise)
 
   -- both jobs of its pair are the pipeline's
   record IsPairOf (q : ℕ × ℕ) : Type 0 where
@@ -275,10 +272,6 @@ module _ (xs ys : List BoardRow) (low : ℕ) (rise_xs : Rising (λ (r : BoardRow
   pub same_board : map (λ (r : BoardRow). r.job) xs ≡ map (λ (r : BoardRow). r.job) ys → xs ≡ ys
   same_board e = tails xs ys (λ r h. h) (λ r h. h) e
 
-pub rising_back : {A : Type 0} (id : A → ℕ) (low : ℕ) (xs : List A) → Rising (λ n. n) low (map id xs) → Rising id low xs
-rising_back id low [] r = tt
-rising_back id low (x ∷ xs) r = (r.0, rising_back id (id x + 1) xs r.1)
-
 -- ---- a board of the rows of each pipeline
 
 module _ (s : State) (rise : Rising (λ (j : Job). j.id) 0 s.jobs) (rows : ℕ → List Row) where
@@ -294,7 +287,7 @@ module _ (s : State) (rise : Rising (λ (j : Job). j.id) 0 s.jobs) (rows : ℕ �
   its_row : (j : Job) → Has j s.jobs → row_for assembled j.id ≡ row_at (rows j.pipeline) (place_in (numbers_of s j.pipeline) j.id)
   its_row j k =
       ap row_or_none (find_has (λ (r : BoardRow). r.job) (row_of_job j) 0 assembled
-      (rising_back (λ (r : BoardRow). r.job) 0 assembled (subst (Rising (λ n. n) 0) (sym its_keys) (rising_numbers (λ (j : Job). j.id) 0 s.jobs rise)))
+      (rises_from_map (λ (r : BoardRow). r.job) 0 assembled (subst (Rising (λ n. n) 0) (sym its_keys) (map_rises (λ (j : Job). j.id) 0 s.jobs rise)))
       (has_map row_of_job j s.jobs k))
 
   -- each pipeline's rows stand there as they were given
@@ -303,7 +296,7 @@ module _ (s : State) (rise : Rising (λ (j : Job). j.id) 0 s.jobs) (rows : ℕ �
       let numbers = numbers_of s pipeline in
       let its : Job → Bool = λ j. j.pipeline == pipeline in
       let within : k < length numbers = subst (λ n. k < n) (sym (length-map (jobs_of s pipeline) (λ (j : Job). j.id))) l in
-      let numbers_rise : Rising (λ n. n) 0 numbers = rising_numbers (λ (j : Job). j.id) 0 (jobs_of s pipeline) (rising_filter (λ (j : Job). j.id) its 0 s.jobs rise) in
+      let numbers_rise : Rising (λ n. n) 0 numbers = map_rises (λ (j : Job). j.id) 0 (jobs_of s pipeline) (rising_filter (λ (j : Job). j.id) its 0 s.jobs rise) in
       let w = map_has (λ (j : Job). j.id) (number_at numbers k) (jobs_of s pipeline) (has_number k numbers within) in
       let of = has_filter its w.0 s.jobs w.1.0 in
       let same : w.0.pipeline ≡ pipeline = eqb-true w.0.pipeline pipeline of.1 in
@@ -401,7 +394,7 @@ module _ (law : OneAssignment) (s : State) (rise : Rising (λ (j : Job). j.id) 0
   one_list : (xs ys : List BoardRow) → AreBoard s xs → AreBoard s ys → xs ≡ ys
   one_list xs ys first second =
       let rows_rise : (zs : List BoardRow) → AreBoard s zs → Rising (λ (r : BoardRow). r.job) 0 zs
-      = λ zs are. rising_back (λ (r : BoardRow). r.job) 0 zs (subst (Rising (λ n. n) 0) (sym are.keys) (rising_numbers (λ (j : Job). j.id) 0 s.jobs rise)) in
+      = λ zs are. rises_from_map (λ (r : BoardRow). r.job) 0 zs (subst (Rising (λ n. n) 0) (sym are.keys) (map_rises (λ (j : Job). j.id) 0 s.jobs rise)) in
       same_board xs ys 0 (rows_rise xs first) (rows_rise ys second)
       (λ r h.
       let named = map_has (λ (j : Job). j.id) r.job s.jobs (subst (Has r.job) first.keys (has_map (λ (q : BoardRow). q.job) r xs h)) in

@@ -1,8 +1,8 @@
 -- The resource groups that are told of a project are those that have a process mode or are held.
-use Rattle.ci_machine_laws.proofs.Prelude.{◌≡◌, ◌⊎◌, ℕ, true, not, ◌==◌, ◌&&◌, List, [], ◌∷◌, map, find, flat_map, Option, Some, None, option_map, option_and_then, nat_cmp}
+use Rattle.ci_machine_laws.proofs.Prelude.{◌≡◌, ◌⊎◌, ℕ, true, not, ◌==◌, ◌&&◌, List, [], ◌∷◌, map, find, Option, Some, None, option_map, option_and_then, nat_cmp}
 use Rattle.ci_machine_laws.proofs.Prelude.{is_eq, Ordering, Less, refl, sym, ap, subst, ◌∙◌, inl, inr, ⊎_elim, eqb-true, eq-eqb, bytes_eq, slice_cmp, Equal-is, cases_Bool}
 use Rattle.ci_machine_laws.proofs.Prelude.{both_ways, and_parts, nat_list_cmp_total, bytes_eq-Decides, Has, Rising, has_put, put_has, has_filter, filter_has, has_map, map_has}
-use Rattle.ci_machine_laws.proofs.Prelude.{has_find, find_has, All-from_has, contains_from_has, has_from_contains, equal, any_has, has_any, in_either, has_left, has_right}
+use Rattle.ci_machine_laws.proofs.Prelude.{has_find, find_has, All-from_has, contains_from_has, has_from_contains, equal, any_has, has_any}
 use Rattle.ci_machine_laws.proofs.Prelude.{Ordered, filter_ordered, put_ordered, rising_from_ascend, ordering_then, is_eq-slice_cmp}
 use Rattle.ci_machine_steps.specs.Prelude.{Attempt, GroupMode, Holder, QueuedJob, Event, Read, ReadQuery, Subject, Seed, Reply, Answer, State, mode_cmp, put, attempt_at}
 use Rattle.ci_machine_steps.specs.Prelude.{live_attempts, is_live, holds, group_held, held_by, held_of, queued_at, holders, holders_in, modes_in, with_names, group_names, Step}
@@ -10,8 +10,8 @@ use Rattle.ci_machine_steps.specs.Prelude.{IsReached}
 use Rattle.ci_machine_laws.specs.Reads.{IsHeldBy, IsModeOf, AreGroups, IsHolder, TellsGroups}
 use Rattle.ci_machine_laws.proofs.EachPlan.{read_told}
 use Rattle.ci_machine_laws.proofs.Numbers.{sound_reached, in_order, ascend}
-use Rattle.ci_machine_laws.proofs.Linked.{has_self}
-use Rattle.ci_machine_laws.proofs.Sweeps.{find_none}
+use Rattle.ci_machine.proofs.Found.{found_none, placed_here}
+use Rattle.ci_machine_steps.proofs.Behind.{flat_has, has_flat}
 
 -- ---- names, each once
 
@@ -21,7 +21,7 @@ text_cmp a b = slice_cmp nat_cmp a b
 put_still : (x y : List ℕ) (names : List (List ℕ)) → Has y names → Has y (put text_cmp x names)
 put_still x y names k =
     ⊎_elim
-    (λ t. subst (λ w. Has w (put text_cmp x names)) (sym ((bytes_eq-Decides y x).0 (sym (is_eq-slice_cmp y x) ∙ t))) (has_self text_cmp x _))
+    (λ t. subst (λ w. Has w (put text_cmp x names)) (sym ((bytes_eq-Decides y x).0 (sym (is_eq-slice_cmp y x) ∙ t))) (placed_here text_cmp x _))
     (λ f. put_has text_cmp x y names k (ap not f))
     (cases_Bool (is_eq (text_cmp y x)))
 
@@ -42,7 +42,7 @@ names_come : (y : List ℕ) (xs names : List (List ℕ)) → Has y xs → Has y 
 names_come y [] names k = absurd k
 names_come y (x ∷ xs) names k =
     ⊎_elim
-    (λ e. names_still y xs (put text_cmp x names) (subst (λ w. Has w (put text_cmp x names)) (sym e) (has_self text_cmp x _)))
+    (λ e. names_still y xs (put text_cmp x names) (subst (λ w. Has w (put text_cmp x names)) (sym e) (placed_here text_cmp x _)))
     (λ m. names_come y xs (put text_cmp x names) m) k
 
 -- ---- the names of modes
@@ -61,15 +61,6 @@ names_ordered project (z ∷ zs) same r = (
 )
 
 -- ---- what live attempts hold
-
-in_flat : {A B : Type 0} (f : A → List B) (y : B) (xs : List A) → Has y (flat_map f xs) → (x : A) × (Has x xs × Has y (f x))
-in_flat f y [] k = absurd k
-in_flat f y (x ∷ xs) k = ⊎_elim (λ m. (x, (inl refl, m))) (λ m. let at = in_flat f y xs m in (at.0, (inr at.1.0, at.1.1))) (in_either y (f x) (flat_map f xs) k)
-
-flat_has : {A B : Type 0} (f : A → List B) (y : B) (x : A) (xs : List A) → Has x xs → Has y (f x) → Has y (flat_map f xs)
-flat_has f y x [] k m = absurd k
-flat_has f y x (z ∷ zs) k m =
-    ⊎_elim (λ e. has_left y (f z) (flat_map f zs) (subst (λ (w : _). Has y (f w)) e m)) (λ j. has_right y (f z) (flat_map f zs) (flat_has f y x zs j m)) k
 
 by_group : (n project : ℕ) (group : Option (List ℕ)) (h : Holder) → Has h (group_held n project group) → h.attempt ≡ n
 by_group n project None h k = absurd k
@@ -93,7 +84,7 @@ module _ (s : State) (project : ℕ) where
   -- it is a live attempt's
   attempt_is : (g : List ℕ) (h : Holder) → Has h (holders s) → Holds g h → (a : Attempt) × (IsHeldBy s project g a × (Has a s.attempts × (h.attempt ≡ a.id)))
   attempt_is g h k w =
-      let at = in_flat (held_of s) h (live_attempts s) k in
+      let at = has_flat (held_of s) h (live_attempts s) k in
       let a = at.0 in
       let live = has_filter is_live a s.attempts at.1.0 in
       (a, ((contains_from_has a s.attempts live.0, live.1, has_any (holds project g) h (held_of s a) at.1.1 (so_holds g h w)), (live.0, by_attempt a.id (queued_at s a.job) h at.1.1)))
@@ -151,7 +142,7 @@ module _ (s : State) (project : ℕ) where
   by_holder : Rising (λ (a : Attempt). a.id) 0 s.attempts → (g : List ℕ) (found : Option Holder) → find (holds project g) (holders s) ≡ found
       → IsHolder s project g (option_map (λ (a : Attempt). a.job) (option_and_then (λ (h : Holder). attempt_at s h.attempt) found))
   by_holder rise g None none = λ a w.
-      let at = holder_is g a w in both_ways (holds project g at.0) (find_none (holds project g) at.0 (holders s) none at.1.0) (so_holds g at.0 at.1.1)
+      let at = holder_is g a w in both_ways (holds project g at.0) (found_none (holds project g) at.0 (holders s) none at.1.0) (so_holds g at.0 at.1.1)
   by_holder rise g (Some h) found =
       let its = has_find (holds project g) h (holders s) found in
       let at = attempt_is g h its.0 (holds_so g h its.1) in

@@ -9,11 +9,10 @@ use Rattle.ci_machine_steps.specs.Prelude.{put, others, attempt_cmp, trace_cmp, 
 use Rattle.ci_machine_steps.specs.Prelude.{finished, status_of_state, refusal, Plan, refused, heard, ended, reported, update_job, grown, appended, append_trace, Happens, Step}
 use Rattle.ci_machine_steps.specs.Prelude.{attempt_at, lease_of, lease_at, trace_of, Past, Leads, IsReached}
 use Rattle.ci_machine_steps.specs.Reports.{told}
-use Rattle.ci_machine_laws.proofs.Sweeps.{found_none}
+use Rattle.ci_machine.proofs.Found.{find_none, placed_here}
 use Rattle.ci_machine_laws.specs.Repeats.{is_of_runner, is_final, WasJustSent, TwiceIsOnce, IsTakenEnd, IsAnsweredAgain, while_there, once_pruned, EndsOnce, OfEachLine}
 use Rattle.ci_machine_laws.specs.Repeats.{RepeatsChangeNothing}
 use Rattle.ci_machine_laws.proofs.Ends.{HasGone, while_ok}
-use Rattle.ci_machine_laws.proofs.Linked.{has_self}
 use Rattle.ci_machine_laws.proofs.Reached.{reached}
 use Rattle.ci_machine_laws.proofs.Pieces.{Fits, accepted_fits}
 
@@ -43,7 +42,7 @@ module _ {A : Type 0} (id : A → ℕ) (x y : A) (same : id x ≡ id y) where
 found_put : (n : ℕ) (x : Attempt) (xs : List Attempt) → Rising (λ (a : Attempt). a.id) 0 xs → x.id ≡ n → find (λ a. a.id == n) (put attempt_cmp x xs) ≡ Some x
 found_put n x xs rise its =
     subst (λ m. find (λ (a : Attempt). a.id == m) (put attempt_cmp x xs) ≡ Some x) its
-    (find_has (λ (a : Attempt). a.id) x 0 (put attempt_cmp x xs) (rising_put (λ (a : Attempt). a.id) x 0 xs rise (omega arith)) (has_self attempt_cmp x (others attempt_cmp x xs)))
+    (find_has (λ (a : Attempt). a.id) x 0 (put attempt_cmp x xs) (rising_put (λ (a : Attempt). a.id) x 0 xs rise (omega arith)) (placed_here attempt_cmp x (others attempt_cmp x xs)))
 
 -- ---- a plan that is made twice
 
@@ -190,7 +189,7 @@ module _ (s : State) (rise : Rising (λ (a : Attempt). a.id) 0 s.attempts) (u : 
       let same : is_same_end state final.state ≡ true = subst (λ w. is_same_end w final.state ≡ true) (sym k.0) final.self in
       record {
         attempt = x;
-        has = has_self attempt_cmp x (others attempt_cmp x s.attempts);
+        has = placed_here attempt_cmp x (others attempt_cmp x s.attempts);
         number = its;
         token = token;
         over = same_ended state final.state same;
@@ -395,7 +394,7 @@ ends_again h p s l step first k end same =
     (λ w.
     let missing : (b : Attempt) → Has b r.attempts → b.id ≡ u.attempt → ⊥ = λ b m e. w.2.1.1 b m (e ∙ sym w.1) in
     let said = says_so r s u p.now p.seed p.answer its (refusal M5) (ap (λ o. update_job (option_map (lease_of r) o) u p.now)
-    (found_none (λ (b : Attempt). b.id == u.attempt) r.attempts (λ b m. ne_eqb b.id u.attempt (missing b m)))) in
+    (find_none (λ (b : Attempt). b.id == u.attempt) r.attempts (λ b m. ne_eqb b.id u.attempt (missing b m)))) in
     (said.0, once_pruned w.0 w.1 w.2.0 (λ c. let n = named_contains (λ (a : Attempt). a.id) u.attempt r.attempts c in missing n.0 n.1.0 n.1.1) said.1))
     (stands_still h r l first k end)
 

@@ -14,7 +14,8 @@ use Rattle.ci_machine_laws.specs.ShownAgain.{ActsOnJob, asks_for}
 use Rattle.ci_machine_laws.proofs.Acts.{IsAct, plays, retries, cancels, cancellable_within, after_act}
 use Rattle.ci_machine_laws.proofs.PutAll.{all_at, all_at_id, all_in_place, rising_all}
 use Rattle.ci_machine_laws.proofs.EachPlan.{Asked, of_asked, is_asked, given_in, IsAsked, asked}
-use Rattle.ci_machine_laws.proofs.Linked.{Linked, has_self}
+use Rattle.ci_machine.proofs.Found.{placed_here}
+use Rattle.ci_machine_laws.proofs.Linked.{Linked}
 use Rattle.ci_machine_laws.proofs.NewPipelines.{its_jobs, its_facts, made_state}
 use Rattle.ci_machine_laws.proofs.OneBoard.{OneAssignment, one_board}
 use Rattle.ci_machine_laws.proofs.OneOutcome.{BoardOnce}
@@ -241,7 +242,7 @@ module _ (s t : State) (linked : Linked s) (once : BoardOnce t) (new : NewPipeli
       let at : pipeline_at u n ≡ Some made.pipeline
       = ap (λ (w : State). pipeline_at w n) is
       ∙ find_has (λ (p : Pipeline). p.id) made.pipeline 0 then.pipelines (rising_put (λ (p : Pipeline). p.id) made.pipeline 0 s.pipelines linked.pipelines_rise (omega arith))
-      (has_self pipeline_cmp made.pipeline (others pipeline_cmp made.pipeline s.pipelines)) in
+      (placed_here pipeline_cmp made.pipeline (others pipeline_cmp made.pipeline s.pipelines)) in
       let found : asked_pipeline (of_asked u new.token new.project) (pipeline_at u n) ≡ Ok made.pipeline
       = (λ i. asked_pipeline (owner i) (at i)) ∙ cond-true (new.project == c.project.id) (Ok made.pipeline) (Err M3) (eq-eqb new.project c.project.id (sym named)) in
       let jobs : jobs_of u n ≡ made.jobs = ap (λ (w : State). jobs_of w n) is ∙ its_jobs s linked new (given_in s new) now c.laid in

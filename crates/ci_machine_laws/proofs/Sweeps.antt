@@ -1,23 +1,12 @@
 -- What a sweep does, and a request to prune, in a state whose records stand in the order of their numbers.
 use Rattle.ci_machine_laws.proofs.Prelude.{◌≡◌, ◌<◌, ◌≤◌, ℕ, true, false, ◌&&◌, not, nat_lt, List, Option, Some, None, refl, sym, ap, subst, ◌∙◌, inl, inr, ⊎_elim, ltb-true}
-use Rattle.ci_machine_laws.proofs.Prelude.{lt-ltb, and_parts, both_ways, cases_Bool, not_true, Rising, has_find, least_find, All-from_has, contains_from_has, cond-false, Bool}
-use Rattle.ci_machine_laws.proofs.Prelude.{[], ◌∷◌, map, filter, find, option_map, cond_both, Has, rising_filter, filter_has, has_filter, find-map, has_map}
+use Rattle.ci_machine_laws.proofs.Prelude.{lt-ltb, and_parts, both_ways, cases_Bool, not_true, Rising, has_find, least_find, All-from_has, contains_from_has, Bool}
+use Rattle.ci_machine_laws.proofs.Prelude.{map, filter, find, option_map, rising_filter, filter_has, has_filter, find-map, has_map}
+use Rattle.ci_machine.proofs.Found.{found_none}
 use Rattle.ci_machine_steps.specs.Prelude.{BoardRow, Pipeline, RowChange, PruneOne, Event, Seed, Answer, State, AreBoard, is_open_in, Plan, is_prunable, prunable_in, prune}
 use Rattle.ci_machine_steps.specs.Prelude.{Happens, jobs_in, IsLeastPrunable, NoneIsPrunable, IsPrunedBy, PipelineWithStatus, Attempt, Lease, Swept, is_live, cause_of, is_over}
 use Rattle.ci_machine_steps.specs.Prelude.{first_due, sweep, is_redundant, lease_of, leases, live_attempts, with_status, was_tried, redundant_in, cancellable_in, is_due}
 use Rattle.ci_machine_steps.specs.Prelude.{NoneIsDue, is_redundant_in, IsLeastRedundant, NoneIsRedundant, SweepsLeast, IsSweptBy}
-
-pub find_none : {A : Type 0} (p : A → Bool) (x : A) (xs : List A) → find p xs ≡ None → Has x xs → p x ≡ false
-find_none p x [] e k = absurd k
-find_none p x (z ∷ zs) e k =
-    cond_both (p z) (Some z) (find p zs) (λ o. o ≡ None → p x ≡ false)
-    (λ _ f. absurd (cc))
-    (λ n f. ⊎_elim (λ q. ap p q ∙ n) (λ m. find_none p x zs f m) k)
-    e
-
-pub found_none : {A : Type 0} (p : A → Bool) (xs : List A) → ((y : A) → Has y xs → p y ≡ false) → find p xs ≡ None
-found_none p [] none = refl
-found_none p (y ∷ ys) none = cond-false (p y) (Some y) (find p ys) (none y (inl refl)) ∙ found_none p ys (λ z k. none z (inr k))
 
 -- no lease is over
 none_due : (s : State) (now : ℕ) → first_due (leases s) now ≡ None → NoneIsDue s now
@@ -26,7 +15,7 @@ none_due s now found =
     All-from_has (λ (a : Attempt). is_due s now a ≡ false) s.attempts (λ a k.
     let rest = (lease_of s a).limit in
     ⊎_elim
-    (λ e. ap (λ t. t && is_over a rest now) e ∙ find_none over (lease_of s a) (leases s) found (has_map (lease_of s) a (live_attempts s) (filter_has is_live a s.attempts k e)))
+    (λ e. ap (λ t. t && is_over a rest now) e ∙ found_none over (lease_of s a) (leases s) found (has_map (lease_of s) a (live_attempts s) (filter_has is_live a s.attempts k e)))
     (λ e. ap (λ t. t && is_over a rest now) e)
     (cases_Bool (is_live a)))
 
@@ -58,7 +47,7 @@ module _ (s : State) (board : List BoardRow) (are : AreBoard s board) where
   none_redundant None found e = record {
     board = board;
     are_board = are;
-    none = All-from_has (λ (w : Pipeline). is_redundant_in s board w ≡ false) s.pipelines (λ w k. find_none test (with_status s board w) (map (with_status s board) s.pipelines) found (has_map (with_status s board) w s.pipelines k));
+    none = All-from_has (λ (w : Pipeline). is_redundant_in s board w ≡ false) s.pipelines (λ w k. found_none test (with_status s board w) (map (with_status s board) s.pipelines) found (has_map (with_status s board) w s.pipelines k));
   }
 
 swept_least : (s : State) (board : List BoardRow) (now : ℕ) → AreBoard s board → Rising (λ (p : Pipeline). p.id) 0 s.pipelines → Rising (λ (a : Attempt). a.id) 0 s.attempts → (o : Option Lease) → first_due (leases s) now ≡ o
@@ -120,7 +109,7 @@ module _ (s : State) (board : List BoardRow) (before : ℕ) (are : AreBoard s bo
     are_board = are;
     none = All-from_has (λ (p : Pipeline). p.created < before → is_open_in s board p ≡ true) s.pipelines (λ p k old. ⊎_elim
         (λ e. e)
-        (λ e. absurd (both_ways (is_prunable s board before p) (find_none (is_prunable s board before) p s.pipelines found k) (passes p old e)))
+        (λ e. absurd (both_ways (is_prunable s board before p) (found_none (is_prunable s board before) p s.pipelines found k) (passes p old e)))
         (cases_Bool (is_open_in s board p)));
   }
 

@@ -4,9 +4,8 @@ use Rattle.serde_json.specs.Data.{Data, string, number, unsigned}
 use Rattle.serde_json.specs.View.{items_of}
 use Rattle.serde_json.specs.Written.{has_float, items_have_float}
 use Rattle.ci_machine_steps.specs.Prelude.{Attempt, Pipeline, Runner, Job, Need, Claim, JobVariable, QueuedJob, number_or_null, text_or_null, listed}
-use Rattle.ci_machine_steps.specs.Prelude.{exit_of, reason_of, runner_or_null, attempt_data, needs_among, told_jobs, jobs_data, pipeline_data, variable_data}
+use Rattle.ci_machine_steps.specs.Prelude.{exit_of, reason_of, runner_or_null, attempt_data, attempts_among, needs_among, told_jobs, jobs_data, pipeline_data, variable_data}
 use Rattle.ci_machine_steps.specs.Prelude.{granted_variables, grant_data, Facts, Row}
-use Rattle.ci_machine.specs.Listings.{attempts_among}
 
 -- a list whose items have none has none
 pub items : {A : Type 0} (data_of : A → Data) → ((x : A) → has_float (data_of x) ≡ false) → (xs : List A) → items_have_float (items_of (map data_of xs)) ≡ false

@@ -3,8 +3,7 @@ use Rattle.std.specs.Prelude.{◌≡◌, ℕ, false, List, map, codes, Option, S
 use Rattle.serde_json.specs.Data.{Data, Members, array, object, member, no_members, string, number, unsigned}
 use Rattle.serde_json.specs.View.{members_view, items_of}
 use Rattle.serde_json.specs.Written.{has_float}
-use Rattle.ci_machine_steps.specs.Prelude.{QueuedJob, Runner, Attempt, Need, Job, attempt_data, group_data, listed, needs_among, text_or_null, GroupOrder}
-use Rattle.ci_machine.specs.Listings.{attempts_among}
+use Rattle.ci_machine_steps.specs.Prelude.{QueuedJob, Runner, Attempt, Need, Job, attempt_data, attempts_among, group_data, listed, needs_among, text_or_null, GroupOrder}
 use Rattle.ci_machine_plans.specs.declared.object.Object.{Object}
 use Rattle.ci_machine_plans.specs.declared.listed_jobs.ToldGroup.{ToldGroup}
 

@@ -6,7 +6,7 @@ use Rattle.std.proofs.lemmas.List.{length-map}
 use Rattle.ci_machine_steps.specs.Prelude.{AttemptState, is_live_state, Attempt, Job, Put, Record, State, job_cmp, attempt_cmp, put, applied, jobs_of, numbers_of, attempts_of}
 use Rattle.ci_machine_steps.specs.Prelude.{pairs_among, predecessors_by, facts_in, facts_of, is_live, is_lease_on, is_job_among, cancelled_attempt}
 use Rattle.ci_machine.proofs.Keyed.{Has, Rising, has_filter, filter_has, filter_none, one_at}
-use Rattle.ci_machine.proofs.Filters.{filter_both}
+use Rattle.ci_machine.proofs.Filters.{filter_both, filter-map}
 use Rattle.ci_machine.proofs.Tests.{any_has, has_any}
 use Rattle.ci_machine_steps.proofs.Behind.{put_all}
 use Rattle.ci_machine_steps.proofs.Created.{applied_append}
@@ -16,7 +16,7 @@ use Rattle.ci_machine_statuses.specs.declared.act.Act.TheVariants.{Play, Retry, 
 use Rattle.ci_machine_statuses.specs.Acts.{marked, ended_leases, act_changes, cancelled_last, acted, facts_acted}
 use Rattle.ci_machine_statuses.specs.Changes.{IsWithin}
 use Rattle.ci_machine_statuses.specs.HolderChanges.{unleased}
-use Rattle.ci_machine_statuses.proofs.Puts.{number, attempt_id, map_same, map_twice, filter-map, change_where, puts_where}
+use Rattle.ci_machine_statuses.proofs.Puts.{number, attempt_id, map_same, map_twice, change_where, puts_where}
 use Rattle.ci_machine_statuses.proofs.Facts.{facts_with, facts_mapped, facts_kept, in_pipeline}
 
 -- a mark changes what was done to a job, and nothing else of it

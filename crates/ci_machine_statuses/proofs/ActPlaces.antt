@@ -17,7 +17,8 @@ use Rattle.ci_machine_statuses.specs.declared.outcome.Outcome.{Outcome}
 use Rattle.ci_machine_statuses.specs.Acts.{is_permitted, act_changes, acted, facts_acted, is_asked, is_acted_on, acted_jobs, acted_state, is_acted_at, facts_change, IsOutcome}
 use Rattle.ci_machine_statuses.specs.Boards.{IsBoardOf, changed_rows}
 use Rattle.ci_machine_statuses.specs.Changes.{IsWithin}
-use Rattle.ci_machine_statuses.proofs.Puts.{number, map_filter, more_in, more_out}
+use Rattle.ci_machine.proofs.Filters.{map_filter}
+use Rattle.ci_machine_statuses.proofs.Puts.{number, more_in, more_out}
 use Rattle.ci_machine_statuses.proofs.Ends.{settled_by}
 use Rattle.ci_machine_statuses.proofs.Joint.{rows_same, settled}
 use Rattle.ci_machine_statuses.proofs.ActFacts.{t, after_is, its_facts, within}

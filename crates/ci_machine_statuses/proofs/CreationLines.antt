@@ -11,8 +11,9 @@ use Rattle.ci_machine_steps.proofs.Created.{after_creation}
 use Rattle.ci_machine_steps.proofs.Sound.{Sound}
 use Rattle.ci_machine_statuses.proofs.Creations.{Created}
 use Rattle.ci_machine_statuses.proofs.Made as made_rows
-use Rattle.ci_machine_statuses.proofs.HeldLists.{find_left, flat_same}
+use Rattle.ci_machine_statuses.proofs.HeldLists.{find_left}
 use Rattle.ci_machine_statuses.proofs.Lines.{own_first, passing_alike, none_passing}
+use Rattle.ci_machine_steps.proofs.Behind.{flat_same}
 
 module _ (s : State) (sound : Sound s) (c : Creation) (it : Created s c) where
   open it use {pipelines, made}

@@ -10,7 +10,8 @@ use Rattle.ci_machine_steps.proofs.Sound.{Sound}
 use Rattle.std.proofs.lemmas.List.Elements.{Contains-get_or}
 use Rattle.ci_machine_statuses.specs.declared.tally.Tally.{Tally}
 use Rattle.ci_machine_statuses.specs.Lookups.{tally_of, facts_by}
-use Rattle.ci_machine_statuses.proofs.Puts.{number, attempt_id, cons_same, map_same, more_in, more_out, filter-map, swap, put_replace, put_last}
+use Rattle.ci_machine.proofs.Filters.{filter-map}
+use Rattle.ci_machine_statuses.proofs.Puts.{number, attempt_id, cons_same, map_same, more_in, more_out, swap, put_replace, put_last}
 
 -- ---- of one record of a list the value is another, and those of the rest stay
 

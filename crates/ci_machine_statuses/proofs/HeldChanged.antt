@@ -11,7 +11,7 @@ use Rattle.ci_machine_statuses.specs.HolderChanges.{turned, held_among, freed, o
 use Rattle.ci_machine_statuses.specs.Lookups.{AreRecords}
 use Rattle.ci_machine_statuses.proofs.ActRecords.{all_leases}
 use Rattle.ci_machine_statuses.proofs.Facts.{in_pipeline}
-use Rattle.ci_machine_statuses.proofs.HeldLists.{flat_same}
+use Rattle.ci_machine_steps.proofs.Behind.{flat_same}
 use Rattle.ci_machine_statuses.proofs.HeldRows.{without_all, all_freed}
 use Rattle.ci_machine_statuses.proofs.Holding.{Ends, held_there, rows_left}
 use Rattle.ci_machine_statuses.proofs.HeldOpening.{turned_rows, all_turned, turned_are}

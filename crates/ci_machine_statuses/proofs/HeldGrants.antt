@@ -14,7 +14,8 @@ use Rattle.ci_machine.proofs.Keyed.{Has, find_has, has_map, has_put, put_has, un
 use Rattle.ci_machine_steps.proofs.Finished.{some_is, running_open}
 use Rattle.ci_machine_steps.proofs.Sound.{Sound}
 use Rattle.ci_machine_statuses.specs.Changes.{started_row}
-use Rattle.ci_machine_statuses.proofs.Puts.{number, put_here, row_put}
+use Rattle.ci_machine.proofs.Found.{put_here}
+use Rattle.ci_machine_statuses.proofs.Puts.{number, row_put}
 use Rattle.ci_machine_statuses.proofs.Positions.{place_of_has}
 use Rattle.ci_machine_statuses.proofs.Grants.{elsewhere, pending_is}
 use Rattle.ci_machine_statuses.proofs.HeldRows.{HoldsMore, more_rows}

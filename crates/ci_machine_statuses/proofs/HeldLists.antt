@@ -1,6 +1,6 @@
--- Lists of records in their order, and lists joined of others.
-use Rattle.std.proofs.Common.{◌≡◌, Bool, true, false, ◌||◌, List, [], ◌∷◌, ◌++◌, map, find, flat_map, Some, option_map, Ordering, Less, Equal, refl, sym, ap, subst}
-use Rattle.std.proofs.Common.{◌∙◌, inl, inr, ⊎_elim}
+-- What is found in lists of records, and lists in their order.
+use Rattle.std.proofs.Common.{◌≡◌, Bool, true, false, ◌||◌, List, [], ◌∷◌, ◌++◌, map, find, Some, option_map, Ordering, Less, Equal, refl, sym, ap}
+use Rattle.std.proofs.Common.{◌∙◌, ⊎_elim}
 use Rattle.std.specs.List.{list_any}
 use Rattle.std.specs.Option.{option_or}
 use Rattle.std.proofs.lemmas.List.Folds.{find-append}
@@ -9,27 +9,7 @@ use Rattle.std.proofs.lemmas.Bool.{cond_both, cond-true, cond-false, cases_Bool,
 use Rattle.ci_machine.proofs.Keyed.{Has, all_from_has, has_from_all}
 use Rattle.ci_machine.proofs.Tests.{has_any}
 use Rattle.std.proofs.lemmas.List.Elements.{All-from_recursion}
-use Rattle.ci_machine_steps.proofs.Behind.{in_either, has_left, has_right}
 use Rattle.ci_machine_steps.proofs.Variables.{Ordered}
-
--- ---- joined lists
-
-pub flat_has : {A B : Type 0} (f : A → List B) (y : B) (x : A) (xs : List A) → Has x xs → Has y (f x) → Has y (flat_map f xs)
-flat_has f y x [] h k = absurd h
-flat_has f y x (z ∷ zs) h k =
-    ⊎_elim
-    (λ e. has_left y (f z) (flat_map f zs) (subst (λ (w : _). Has y (f w)) e k))
-    (λ m. has_right y (f z) (flat_map f zs) (flat_has f y x zs m k))
-    h
-
-pub has_flat : {A B : Type 0} (f : A → List B) (y : B) (xs : List A) → Has y (flat_map f xs) → (x : A) × (Has x xs × Has y (f x))
-has_flat f y [] h = absurd h
-has_flat f y (z ∷ zs) h =
-    ⊎_elim (λ m. (z, (inl refl, m))) (λ m. let w = has_flat f y zs m in (w.0, (inr w.1.0, w.1.1))) (in_either y (f z) (flat_map f zs) h)
-
-pub flat_same : {A B : Type 0} (f g : A → List B) (xs : List A) → ((x : A) → Has x xs → f x ≡ g x) → flat_map f xs ≡ flat_map g xs
-flat_same f g [] h = refl
-flat_same f g (x ∷ xs) h = λ i. h x (inl refl) i ++ flat_same f g xs (λ y k. h y (inr k)) i
 
 -- ---- what is found
 

@@ -17,7 +17,7 @@ use Rattle.ci_machine.proofs.Keyed.{Has, has_filter, filter_has, has_put, put_ha
 use Rattle.ci_machine.proofs.Keyed.{not_true}
 use Rattle.ci_machine_steps.proofs.Variables.{Ordered, filter_ordered, put_ordered}
 use Rattle.ci_machine_statuses.proofs.HeldLists.{none_any, ordered, ascends, one_of}
-use Rattle.ci_machine_statuses.proofs.Puts.{put_here}
+use Rattle.ci_machine.proofs.Found.{put_here}
 
 -- ---- keys
 

@@ -9,8 +9,9 @@ use Rattle.ci_machine_steps.proofs.Variables.{Ordered}
 use Rattle.ci_machine_steps.proofs.Sound.{Sound}
 use Rattle.ci_machine_statuses.specs.HolderChanges.{held_among}
 use Rattle.ci_machine_statuses.proofs.Puts.{attempt_id}
-use Rattle.ci_machine_statuses.proofs.HeldLists.{flat_has, has_flat, find_any, ordered, ascends}
+use Rattle.ci_machine_statuses.proofs.HeldLists.{find_any, ordered, ascends}
 use Rattle.ci_machine_statuses.proofs.HeldRows.{holds_own, one_row, without_all, without_ordered, in_without, has_without}
+use Rattle.ci_machine_steps.proofs.Behind.{flat_has, has_flat}
 
 -- ---- what is held in a state
 

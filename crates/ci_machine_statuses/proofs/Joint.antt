@@ -9,8 +9,9 @@ use Rattle.ci_machine_steps.proofs.Sound.{Sound}
 use Rattle.ci_machine_statuses.specs.Boards.{changed_rows}
 use Rattle.ci_machine_statuses.specs.Changes.{IsWithin, HaveSameFacts}
 use Rattle.ci_machine_statuses.proofs.Puts.{number, job_of, map_same}
-use Rattle.ci_machine_statuses.proofs.RowPuts.{changed_own, changed_other, changed_keys, map_rises, rises_like}
+use Rattle.ci_machine_statuses.proofs.RowPuts.{changed_own, changed_other, changed_keys, rises_like}
 use Rattle.ci_machine_statuses.proofs.Facts.{in_pipeline, other_pipeline}
+use Rattle.ci_machine.proofs.Keyed.{map_rises}
 
 -- ---- numbers of a pipeline
 

@@ -16,7 +16,7 @@ use Rattle.ci_machine_statuses.specs.declared.fault.StatusFault.{StatusFault}
 use Rattle.ci_machine_statuses.specs.declared.fault.StatusFault.TheVariants.{Broken}
 use Rattle.ci_machine_statuses.proofs.Puts.{job_of, number, map_same}
 use Rattle.ci_machine_statuses.proofs.Positions.{among_has, ascending, has_among}
-use Rattle.ci_machine_statuses.proofs.RowPuts.{map_rises}
+use Rattle.ci_machine.proofs.Keyed.{map_rises}
 use Rattle.ci_machine_statuses.proofs.Joint.{number_there, board_rises}
 use Rattle.ci_machine_statuses.proofs.Facts.{facts_with, in_pipeline}
 use Rattle.ci_machine_statuses.proofs.ActRecords.{all_attempts}

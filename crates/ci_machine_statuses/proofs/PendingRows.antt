@@ -6,7 +6,8 @@ use Rattle.ci_machine.specs.Prelude.{row_at}
 use Rattle.ci_machine.proofs.Keyed.{Has, find_has, has_filter, filter_same, has_map, map_has}
 use Rattle.ci_machine.proofs.Tests.{has_any}
 use Rattle.ci_machine_steps.proofs.Sound.{Sound}
-use Rattle.ci_machine_statuses.proofs.Puts.{cons_same, number, job_of, map_same, map_twice, map_filter}
+use Rattle.ci_machine.proofs.Filters.{map_filter}
+use Rattle.ci_machine_statuses.proofs.Puts.{cons_same, number, job_of, map_same, map_twice}
 use Rattle.ci_machine_statuses.proofs.RowPuts.{its_row}
 use Rattle.ci_machine_statuses.proofs.Joint.{board_rises}
 use Rattle.ci_machine_statuses.proofs.HeldLists.{find_any}

@@ -9,11 +9,11 @@ use Rattle.ci_machine_steps.specs.Prelude.{job_at, pipeline_at, project_or_none,
 use Rattle.ci_machine_steps.specs.Prelude.{without_pipeline}
 use Rattle.ci_machine.proofs.Keyed.{Has, one_at, has_filter, filter_same, has_find, map_has, not_true}
 use Rattle.ci_machine.proofs.Tests.{any_mapped}
-use Rattle.ci_machine.proofs.Filters.{filter_implied, find_implied, all_gone}
+use Rattle.ci_machine.proofs.Filters.{filter_implied, find_implied, all_gone, map_filter}
 use Rattle.ci_machine_steps.proofs.Pruned.{among_its, pruned_state, jobs_left, no_jobs, attempts_left, attempt_was, attempt_left}
 use Rattle.ci_machine_steps.proofs.Finished.{not_its, job_stands}
 use Rattle.ci_machine_steps.proofs.Sound.{Sound}
-use Rattle.ci_machine_statuses.proofs.Puts.{map_filter, number, job_of}
+use Rattle.ci_machine_statuses.proofs.Puts.{number, job_of}
 use Rattle.ci_machine_statuses.proofs.Positions.{has_among}
 use Rattle.ci_machine_statuses.proofs.Facts.{facts_with, in_pipeline}
 use Rattle.ci_machine_statuses.proofs.Holding.{rows_stay}

@@ -1,12 +1,13 @@
 -- What a put makes of a list of records in the order of their numbers.
-use Rattle.std.proofs.Common.{◌≡◌, ℕ, ◌+◌, ◌<◌, ◌≤◌, Bool, true, false, cond, not, ◌==◌, List, [], ◌∷◌, ◌++◌, map, filter, find, if◌then◌else◌, Some, None, refl, sym, ap, subst}
-use Rattle.std.proofs.Common.{◌∙◌, inl, inr, ⊎_elim, arith, eq-eqb, eqb-true, ne_eqb, nat_cmp, is_eq, is_lt, Ordering}
+use Rattle.std.proofs.Common.{◌≡◌, ℕ, ◌+◌, ◌<◌, ◌≤◌, Bool, true, false, cond, not, ◌==◌, List, [], ◌∷◌, ◌++◌, map, filter, if◌then◌else◌, refl, sym, ap, subst}
+use Rattle.std.proofs.Common.{◌∙◌, inl, inr, ⊎_elim, arith, eq-eqb, ne_eqb, nat_cmp, is_eq, is_lt, Ordering}
 use Rattle.std.proofs.lemmas.Bool.{cond_both, cond-true, cond-false}
 use Rattle.std.proofs.lemmas.List.{append-nil, map-id}
 use Rattle.std.proofs.lemmas.List.Elements.{filter-append}
 use Rattle.ci_machine_steps.specs.Prelude.{Job, Attempt, BoardRow, placed, others, put, row_cmp, row_for, row_or_none}
-use Rattle.ci_machine.proofs.Keyed.{Has, Rising, rising_from, different, unequal, equal, less, has_filter, map_has, filter_same}
-use Rattle.ci_machine.proofs.Filters.{filter_all, find_implied}
+use Rattle.ci_machine.proofs.Keyed.{Has, Rising, rising_from, unequal, equal, less, has_filter, map_has}
+use Rattle.ci_machine.proofs.Filters.{filter_all}
+use Rattle.ci_machine.proofs.Found.{put_other, put_same}
 use Rattle.ci_machine_steps.proofs.Behind.{put_all, put_behind, nat_less}
 
 -- by which numbers records stand
@@ -38,18 +39,6 @@ more_in p xs x e = filter-append p xs (x ∷ []) ∙ ap (λ l. filter p xs ++ l)
 
 pub more_out : {A : Type 0} (p : A → Bool) (xs : List A) (x : A) → p x ≡ false → filter p (xs ++ x ∷ []) ≡ filter p xs
 more_out p xs x e = filter-append p xs (x ∷ []) ∙ (ap (λ l. filter p xs ++ l) (cond-false (p x) (x ∷ []) [] e) ∙ append-nil (filter p xs))
-
--- what passes by what it is mapped to
-pub map_filter : {A B : Type 0} (f : A → B) (p : B → Bool) (xs : List A) → map f (filter (λ x. p (f x)) xs) ≡ filter p (map f xs)
-map_filter f p [] = refl
-map_filter f p (x ∷ xs) =
-    cond_both (p (f x)) (x ∷ filter (λ y. p (f y)) xs) (filter (λ y. p (f y)) xs) (λ l. map f l ≡ filter p (f x ∷ map f xs))
-    (λ e. cons_same refl (map_filter f p xs) ∙ sym (cond-true (p (f x)) (f x ∷ filter p (map f xs)) (filter p (map f xs)) e))
-    (λ e. map_filter f p xs ∙ sym (cond-false (p (f x)) (f x ∷ filter p (map f xs)) (filter p (map f xs)) e))
-
--- a change that a test doesn't see leaves what passes it
-pub filter-map : {A : Type 0} (p : A → Bool) (f : A → A) (xs : List A) → ((x : A) → Has x xs → p (f x) ≡ p x) → filter p (map f xs) ≡ map f (filter p xs)
-filter-map p f xs h = sym (map_filter f p xs) ∙ ap (map f) (filter_same (λ x. p (f x)) p xs h)
 
 -- ---- puts
 
@@ -130,34 +119,11 @@ module _ {A : Type 0} (id : A → ℕ) where
           ∙ (all_after (f z) (map f (filter test zs)) zs (λ y k. subst (λ n. n < id y) (sym (keeps z)) (above y k)) ∙ cons_same refl rest)
       by false rest = all_after z (map f (filter test zs)) zs above ∙ cons_same refl rest
 
-placed_here : {A : Type 0} (cmp : A → A → Ordering) (x : A) (xs : List A) → Has x (placed cmp x xs)
-placed_here cmp x [] = inl refl
-placed_here cmp x (y ∷ ys) = cond_both (is_lt (cmp y x)) (y ∷ placed cmp x ys) (x ∷ y ∷ ys) (Has x) (λ e. inr (placed_here cmp x ys)) (λ e. inl refl)
-
-pub put_here : {A : Type 0} (cmp : A → A → Ordering) (x : A) (xs : List A) → Has x (put cmp x xs)
-put_here cmp x xs = placed_here cmp x (others cmp x xs)
-
 -- ---- rows
-
-find_placed : (r : BoardRow) (n : ℕ) (b : List BoardRow) → (n ≡ r.job → ⊥) → find (λ x. x.job == n) (placed row_cmp r b) ≡ find (λ x. x.job == n) b
-find_placed r n [] d = cond-false (r.job == n) (Some r) None (ne_eqb r.job n (λ q. d (sym q)))
-find_placed r n (z ∷ zs) d =
-    cond_both (is_lt (nat_cmp z.job r.job)) (z ∷ placed row_cmp r zs) (r ∷ z ∷ zs) (λ l. find (λ x. x.job == n) l ≡ find (λ x. x.job == n) (z ∷ zs))
-    (λ e. ap (λ o. cond (z.job == n) (Some z) o) (find_placed r n zs d))
-    (λ e. cond-false (r.job == n) (Some r) (find (λ x. x.job == n) (z ∷ zs)) (ne_eqb r.job n (λ q. d (sym q))))
-
-find_its : (r : BoardRow) (b : List BoardRow) → ((y : BoardRow) → Has y b → y.job ≡ r.job → ⊥) → find (λ x. x.job == r.job) (placed row_cmp r b) ≡ Some r
-find_its r [] d = cond-true (r.job == r.job) (Some r) None (eq-eqb r.job r.job refl)
-find_its r (z ∷ zs) d =
-    cond_both (is_lt (nat_cmp z.job r.job)) (z ∷ placed row_cmp r zs) (r ∷ z ∷ zs) (λ l. find (λ x. x.job == r.job) l ≡ Some r)
-    (λ e. cond-false (z.job == r.job) (Some z) (find (λ x. x.job == r.job) (placed row_cmp r zs)) (ne_eqb z.job r.job (λ q. d z (inl refl) q)) ∙ find_its r zs (λ y h. d y (inr h)))
-    (λ e. cond-true (r.job == r.job) (Some r) (find (λ x. x.job == r.job) (z ∷ zs)) (eq-eqb r.job r.job refl))
 
 -- a put row is found at its job, and the others where they were
 pub row_put : (r : BoardRow) (b : List BoardRow) → row_for (put row_cmp r b) r.job ≡ r.row
-row_put r b = ap row_or_none (find_its r (others row_cmp r b) (λ y h. different y.job r.job (has_filter (λ z. not (is_eq (nat_cmp z.job r.job))) y b h).1))
+row_put r b = ap row_or_none (put_same job_of r r.job b refl)
 
 pub row_other : (r : BoardRow) (n : ℕ) (b : List BoardRow) → (n ≡ r.job → ⊥) → row_for (put row_cmp r b) n ≡ row_for b n
-row_other r n b d =
-    ap row_or_none (find_placed r n (others row_cmp r b) d
-    ∙ find_implied (λ x. x.job == n) (λ x. not (is_eq (nat_cmp x.job r.job))) b (λ x h e. unequal x.job r.job (λ q. d (sym (eqb-true x.job n e) ∙ q))))
+row_other r n b d = ap row_or_none (put_other job_of r n b d)

@@ -9,6 +9,7 @@ use Rattle.ci_machine.proofs.Keyed.{Has, Rising, rising_from, find_has, map_has}
 use Rattle.ci_machine_steps.proofs.Behind.{put_all, all_behind, rising_ordered, nat_less}
 use Rattle.ci_machine_statuses.specs.Boards.{board_row, changed_rows}
 use Rattle.ci_machine_statuses.proofs.Puts.{job_of, cons_same, map_same, map_twice, swap, put_replace, row_put, row_other}
+use Rattle.ci_machine.proofs.Keyed.{map_rises, rises_from_map}
 
 -- ---- rows that are put
 
@@ -18,14 +19,6 @@ others_stay [] board n d = refl
 others_stay (r ∷ rows) board n d = others_stay rows (put row_cmp r board) n (λ x h. d x (inr h)) ∙ row_other r n board (d r (inl refl))
 
 -- ---- the keys of a board
-
-pub map_rises : {A : Type 0} (id : A → ℕ) (low : ℕ) (xs : List A) → Rising id low xs → Rising (λ n. n) low (map id xs)
-map_rises id low [] r = tt
-map_rises id low (x ∷ xs) r = (r.0, map_rises id (id x + 1) xs r.1)
-
-pub rises_from_map : {A : Type 0} (id : A → ℕ) (low : ℕ) (xs : List A) → Rising (λ n. n) low (map id xs) → Rising id low xs
-rises_from_map id low [] r = tt
-rises_from_map id low (x ∷ xs) r = (r.0, rises_from_map id (id x + 1) xs r.1)
 
 -- lists of the same numbers rise together
 pub rises_like : {A B : Type 0} (id : A → ℕ) (ib : B → ℕ) (low : ℕ) (xs : List A) (ys : List B) → map id xs ≡ map ib ys → Rising ib low ys → Rising id low xs

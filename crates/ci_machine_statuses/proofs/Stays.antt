@@ -7,7 +7,8 @@ use Rattle.ci_machine_steps.specs.Prelude.{without_record, changed, applied, job
 use Rattle.ci_machine.proofs.Keyed.{Has, Rising, rising_put, has_put, has_from_contains, put_has, one_at, unequal}
 use Rattle.ci_machine_steps.proofs.Sound.{Sound, sound}
 use Rattle.ci_machine_statuses.specs.Changes.{HaveSameFacts, IsNoStatus, IsNoStatusKey, LeavesStatuses}
-use Rattle.ci_machine_statuses.proofs.Puts.{number, attempt_id, map_same, put_here}
+use Rattle.ci_machine.proofs.Found.{put_here}
+use Rattle.ci_machine_statuses.proofs.Puts.{number, attempt_id, map_same}
 use Rattle.ci_machine_statuses.proofs.Facts.{facts_with, same_state}
 use Rattle.ci_machine_statuses.proofs.Joint.{same_facts}
 

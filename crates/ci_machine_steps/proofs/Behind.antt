@@ -1,6 +1,6 @@
 -- Records that are put behind all others of their list.
 use Rattle.std.proofs.Common.{◌≡◌, ℕ, ◌+◌, ◌<◌, ◌≤◌, not, List, [], ◌∷◌, ◌++◌, ◌⊎◌, nat_cmp, is_eq, is_lt, Ordering, Less, refl, sym, ap, subst, ◌∙◌, inl, inr, ⊎_elim, arith}
-use Rattle.std.proofs.Common.{lt-ltb}
+use Rattle.std.proofs.Common.{lt-ltb, flat_map}
 use Rattle.std.proofs.lemmas.Bool.{cond-true}
 use Rattle.std.proofs.lemmas.List.{append-nil, append_assoc}
 use Rattle.ci_machine_steps.specs.Prelude.{placed, others, put}
@@ -21,6 +21,23 @@ has_left x (z ∷ zs) ys h = ⊎_elim (λ e. inl e) (λ m. inr (has_left x zs ys
 pub has_right : {A : Type 0} (x : A) (xs ys : List A) → Has x ys → Has x (xs ++ ys)
 has_right x [] ys h = h
 has_right x (z ∷ zs) ys h = inr (has_right x zs ys h)
+
+pub flat_has : {A B : Type 0} (f : A → List B) (y : B) (x : A) (xs : List A) → Has x xs → Has y (f x) → Has y (flat_map f xs)
+flat_has f y x [] h k = absurd h
+flat_has f y x (z ∷ zs) h k =
+    ⊎_elim
+    (λ e. has_left y (f z) (flat_map f zs) (subst (λ (w : _). Has y (f w)) e k))
+    (λ m. has_right y (f z) (flat_map f zs) (flat_has f y x zs m k))
+    h
+
+pub has_flat : {A B : Type 0} (f : A → List B) (y : B) (xs : List A) → Has y (flat_map f xs) → (x : A) × (Has x xs × Has y (f x))
+has_flat f y [] h = absurd h
+has_flat f y (z ∷ zs) h =
+    ⊎_elim (λ m. (z, (inl refl, m))) (λ m. let w = has_flat f y zs m in (w.0, (inr w.1.0, w.1.1))) (in_either y (f z) (flat_map f zs) h)
+
+pub flat_same : {A B : Type 0} (f g : A → List B) (xs : List A) → ((x : A) → Has x xs → f x ≡ g x) → flat_map f xs ≡ flat_map g xs
+flat_same f g [] h = refl
+flat_same f g (x ∷ xs) h = λ i. h x (inl refl) i ++ flat_same f g xs (λ y k. h y (inr k)) i
 
 module _ {A : Type 0} (cmp : A → A → Ordering) where
   -- every record of the list is less than x

@@ -5,7 +5,7 @@ use Rattle.std.specs.Cmp.{IsTotalOrder}
 use Rattle.std.proofs.lemmas.Cmp.{nat_cmp_total, on_total, then_total}
 use Rattle.std.proofs.lemmas.Bool.{cond_both, ltb-false}
 use Rattle.ci_config.specs.Config as config
-use Rattle.ci_graph_layout.specs.Prelude.{Text, Config, Given, IncludedJob, included, all_included, is_of, by_stage, lineup, pairs, Plan, Plans, faulty, cyclic, planned}
+use Rattle.ci_graph_layout.specs.Prelude.{Text, Config, Given, Decided, decided, decided_job, IncludedJob, by_rules, included, all_included, is_of, by_stage, lineup, pairs, Plan, Plans, faulty, cyclic, planned}
 use Rattle.ci_machine.specs.Prelude.{AreWithin}
 use Rattle.ci_graph_layout.proofs.Within.{pairs_within}
 use Rattle.ci_graph_layout.specs.Layout as layout
@@ -13,7 +13,7 @@ use Rattle.ci_graph_layout.specs.declared.fault.GraphCode.{GraphCode}
 use Rattle.ci_machine_steps.specs.Prelude.{Job, JobVariable, Need, RowChange, Put, Record, Counter, Detail, State, put, pipeline_cmp, job_cmp, job_variable_cmp, need_cmp, applied}
 use Rattle.ci_machine_steps.specs.Prelude.{changed, IsRead, Layout, IsLaidOut, misread, unplanned, new_job, new_jobs, need_of, put_needs, Creation, creation_changes}
 use Rattle.ci_machine_steps.specs.Pipelines as pipelines
-use Rattle.ci_machine.proofs.Keyed.{Has, Rising, Below, rising_from, has_put, has_filter, has_from_all}
+use Rattle.ci_machine.proofs.Keyed.{Has, Rising, Below, rising_from, has_put, has_filter, map_has, has_from_all}
 use Rattle.ci_machine_steps.proofs.Behind.{in_either, put_all, all_behind, rising_ordered, nat_less}
 use Rattle.ci_machine_steps.proofs.Variables.{Ordered, put_ordered}
 
@@ -151,21 +151,24 @@ has_put_some : {A : Type 0} (x : A) (o : Option A) (xs : List A) → Has x (layo
 has_put_some x None xs h = inr h
 has_put_some x (Some y) xs h = ⊎_elim (λ e. inl (ap (λ w. Some w) (sym e))) (λ m. inr m) h
 
-all_included_are : (g : Given) (c : Config) (js : List config.Job) (i : IncludedJob) → Has i (all_included g c js) → (j : config.Job) × (Has j js × (included g c j ≡ Some i))
-all_included_are g c [] i h = absurd h
-all_included_are g c (j ∷ js) i h =
-    ⊎_elim (λ e. (j, (inl refl, e))) (λ m. let w = all_included_are g c js i m in (w.0, (inr w.1.0, w.1.1))) (has_put_some i (included g c j) (all_included g c js) h)
+all_included_are : (ds : List Decided) (i : IncludedJob) → Has i (all_included ds) → (d : Decided) × (Has d ds × (by_rules d.job d.decision ≡ Some i))
+all_included_are [] i h = absurd h
+all_included_are (d ∷ ds) i h =
+    ⊎_elim (λ e. (d, (inl refl, e))) (λ m. let w = all_included_are ds i m in (w.0, (inr w.1.0, w.1.1))) (has_put_some i (by_rules d.job d.decision) (all_included ds) h)
 
-stage_are : (g : Given) (c : Config) (stages : List Text) (i : IncludedJob) → Has i (by_stage g c stages) → (j : config.Job) × (Has j c.jobs × (included g c j ≡ Some i))
-stage_are g c [] i h = absurd h
-stage_are g c (stage ∷ stages) i h =
+stage_are : (ds : List Decided) (stages : List Text) (i : IncludedJob) → Has i (by_stage ds stages) → (d : Decided) × (Has d ds × (by_rules d.job d.decision ≡ Some i))
+stage_are ds [] i h = absurd h
+stage_are ds (stage ∷ stages) i h =
     ⊎_elim
-    (λ m. let w = all_included_are g c (filter (is_of stage) c.jobs) i m in (w.0, ((has_filter (is_of stage) w.0 c.jobs w.1.0).0, w.1.1)))
-    (λ m. stage_are g c stages i m)
-    (in_either i (all_included g c (filter (is_of stage) c.jobs)) (by_stage g c stages) h)
+    (λ m. let w = all_included_are (filter (is_of stage) ds) i m in (w.0, ((has_filter (is_of stage) w.0 ds w.1.0).0, w.1.1)))
+    (λ m. stage_are ds stages i m)
+    (in_either i (all_included (filter (is_of stage) ds)) (by_stage ds stages) h)
 
 pub lineup_are : (g : Given) (c : Config) (i : IncludedJob) → Has i (lineup g c) → (j : config.Job) × (Has j c.jobs × (included g c j ≡ Some i))
-lineup_are g c i h = stage_are g c c.stages i h
+lineup_are g c i h =
+    let w = stage_are (decided g c) c.stages i h in
+    let of = map_has (decided_job g c) w.0 c.jobs w.1.0 in
+    (of.0, (of.1.0, subst (λ (d : Decided). by_rules d.job d.decision ≡ Some i) (sym of.1.1) w.1.1))
 
 -- the pairs are of its jobs
 pub pairs_inside : (text : List ℕ) (g : Given) (laid : Layout) → IsLaidOut text g (Ok laid) → (p : ℕ × ℕ) → Has p laid.plan.pairs → (p.0 < length laid.plan.jobs) × (p.1 < length laid.plan.jobs)

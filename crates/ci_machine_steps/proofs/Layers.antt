@@ -1,5 +1,5 @@
 -- The variables of a job, of all layers: in the order of their names, each with its first value.
-use Rattle.std.proofs.Common.{◌≡◌, ℕ, Bool, true, false, not, List, [], ◌∷◌, ◌++◌, map, if◌then◌else◌, Option, Some, None, nat_cmp, is_eq, is_lt, Less, refl, sym, ap, ◌∙◌, inl}
+use Rattle.std.proofs.Common.{◌≡◌, ℕ, Bool, true, false, not, List, [], ◌∷◌, map, if◌then◌else◌, Some, nat_cmp, is_eq, is_lt, Less, refl, sym, ap, ◌∙◌, inl}
 use Rattle.std.proofs.Common.{inr, ⊎_elim}
 use Rattle.std.specs.List.{AllByRecursion}
 use Rattle.std.specs.Str.{bytes_eq}
@@ -10,8 +10,7 @@ use Rattle.std.proofs.lemmas.Bool.{cond_both, cond-false, both_ways, cases_Bool,
 use Rattle.std.proofs.lemmas.Cmp.{on_total, nat_list_cmp_total}
 use Rattle.std.proofs.lemmas.Map.Text.{is_eq-slice_cmp}
 use Rattle.std.proofs.lemmas.Slice.Eq.{bytes_eq-Decides}
-use Rattle.ci_machine_steps.specs.Prelude.{Variables, or_else, value_in, meaning_of, placed, others, put, name_cmp, merged}
-use Rattle.ci_graph_layout.specs.Prelude.{Config, Job, Given, layered, own_names}
+use Rattle.ci_machine_steps.specs.Prelude.{Variables, meaning_of, placed, others, put, name_cmp, merged}
 use Rattle.ci_machine.proofs.Keyed.{Has, has_filter}
 use Rattle.ci_machine_steps.proofs.Variables.{Ordered, put_ordered}
 
@@ -90,34 +89,3 @@ put_mean v name xs =
 pub merged_mean : (vs : Variables) (name : List ℕ) → meaning_of (merged vs) name ≡ meaning_of vs name
 merged_mean [] name = refl
 merged_mean (v ∷ vs) name = put_mean v name (merged vs) ∙ ap (λ m. if bytes_eq v.0 name then Some v.1 else m) (merged_mean vs name)
-
--- ---- the layers
-
-append_mean : (xs ys : Variables) (name : List ℕ) → meaning_of (xs ++ ys) name ≡ or_else (meaning_of xs name) (meaning_of ys name)
-append_mean [] ys name = refl
-append_mean (x ∷ xs) ys name =
-    ⊎_elim (λ e. rw e refl) (λ e. rw e (append_mean xs ys name)) (cases_Bool (bytes_eq x.0 name))
-
-turned : {A : Type 0} (a b c d e f : Option A) → or_else (or_else (or_else (or_else (or_else a b) c) d) e) f ≡ or_else a (or_else b (or_else c (or_else d (or_else (or_else e f) None))))
-turned (Some x) b c d e f = refl
-turned None (Some x) c d e f = refl
-turned None None (Some x) d e f = refl
-turned None None None (Some x) e f = refl
-turned None None None None (Some x) f = refl
-turned None None None None None (Some x) = refl
-turned None None None None None None = refl
-
-pub layers_mean : (g : Given) (c : Config) (j : Job) (own : Variables) (name : List ℕ)
-    → meaning_of (layered g c j own) name ≡ value_in (g.pipeline ∷ g.project ∷ own ∷ c.variables ∷ (own_names j ++ g.predefined) ∷ []) name
-layers_mean g c j own name =
-    let of = λ (vs : Variables). meaning_of vs name in
-    append_mean (g.pipeline ++ g.project ++ own ++ c.variables ++ own_names j) g.predefined name
-    ∙ (ap (λ m. or_else m (of g.predefined))
-    (append_mean (g.pipeline ++ g.project ++ own ++ c.variables) (own_names j) name
-    ∙ ap (λ m. or_else m (of (own_names j)))
-    (append_mean (g.pipeline ++ g.project ++ own) c.variables name
-    ∙ ap (λ m. or_else m (of c.variables))
-    (append_mean (g.pipeline ++ g.project) own name
-    ∙ ap (λ m. or_else m (of own)) (append_mean g.pipeline g.project name))))
-    ∙ (turned (of g.pipeline) (of g.project) (of own) (of c.variables) (of (own_names j)) (of g.predefined)
-    ∙ ap (λ m. or_else (of g.pipeline) (or_else (of g.project) (or_else (of own) (or_else (of c.variables) (or_else m None))))) (sym (append_mean (own_names j) g.predefined name))))

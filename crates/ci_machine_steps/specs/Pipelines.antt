@@ -7,7 +7,7 @@ use Rattle.std.specs.Ordering.{nat_cmp}
 use Rattle.std.specs.Cmp.Lexicographic.{slice_cmp}
 use Rattle.std.specs.Str.{bytes_eq}
 use Rattle.serde_json.specs.Written.{compact_text}
-use Rattle.ci_machine.specs.Prelude.{is_name, MAX_NUMBER, Variables, is_variable_name, Row, AreRows, no_facts, State, applied, put, need_cmp, graph_by, rows_of, AreBoard}
+use Rattle.ci_machine.specs.Prelude.{is_name, MAX_NUMBER, Variables, is_variable_name, Row, no_facts, State, applied, put, need_cmp, rows_of, AreBoard}
 use Rattle.ci_machine.specs.Prelude.{claims_in, source_text, pipeline_data}
 use Rattle.ci_graph_layout.specs.Prelude.{Config, MAX_VARIABLES, Given, IncludedJob, layered, job_part, Plans}
 use Rattle.ci_graph_layout.specs.Fault as layout
@@ -184,11 +184,6 @@ creation_changes first made =
     ∷ Put (Record.Next Counter.Pipeline (made.pipeline.id + 1))
     ∷ Put (Record.Next Counter.Job (first + length made.jobs))
     ∷ (map (λ j. Put (Record.Job j)) made.jobs ++ (map (λ v. Put (Record.JobVariable v)) made.variables ++ map (λ w. Put (Record.Need w)) made.needs))
-
--- The rows of jobs with these needs, of which none was tried.
-pub record AreFirstRows (jobs : List Job) (needs : List Need) (rows : List Row) : Type 0 where
-  pub long : length rows ≡ length jobs
-  pub settled : AreRows (graph_by jobs needs) (replicate (length jobs) no_facts) rows
 
 -- the pipeline is shown with the statuses of its jobs, which have these rows, where these claims are on resource groups
 abbrev pub pipeline_created : ℕ → Creation → List Claim → List Row → Plan

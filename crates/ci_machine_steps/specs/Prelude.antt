@@ -55,8 +55,8 @@ pub use Rattle.ci_machine.specs.Indexes.{AreIndexes, is_open_in, newer_in, redun
 pub use Rattle.ci_machine.specs.Kept.{Kept, cleared, indexed, indexed_all, nothing_kept, put_rows, row_cmp, unfinished_cmp, with_open, without_open, written}
 pub use Rattle.ci_machine.specs.Leases.{accepted, after_final, cause_of, deadline, finished, first_due, if_leased, is_live, is_over, is_same_end, renewed, same_exit, size_after}
 pub use Rattle.ci_machine.specs.Leases.{while_leased}
-pub use Rattle.ci_machine.specs.Listings.{attempt_data, exit_of, group_data, is_tag, listed, listed_job_data, listed_pipeline_data, needs_among, number_or_null, project_data}
-pub use Rattle.ci_machine.specs.Listings.{reason_of, runner_or_null, text_or_null, told_job, told_jobs}
+pub use Rattle.ci_machine.specs.Listings.{attempt_data, attempts_among, exit_of, group_data, is_tag, listed, listed_job_data, listed_pipeline_data, needs_among, number_or_null}
+pub use Rattle.ci_machine.specs.Listings.{project_data, reason_of, runner_or_null, text_or_null, told_job, told_jobs}
 pub use Rattle.ci_machine.specs.Lookups.{attempt_at, demand_of, is_pending, job_at, last_attempt, lease_at, lease_of, leases, limit_or_none, live_attempts, newest_of, next_of}
 pub use Rattle.ci_machine.specs.Lookups.{pending_jobs, pipeline_at, pipeline_of, project_at, project_or_none, project_variables, project_with, queue, queued, runner_at}
 pub use Rattle.ci_machine.specs.Lookups.{runner_with, trace_if_any, trace_of, variable_at, variables_of}

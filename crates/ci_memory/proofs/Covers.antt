@@ -12,7 +12,8 @@ use Rattle.ci_memory.specs.Known.{Known}
 use Rattle.ci_memory.specs.Alone.{IsOpen, IsAlone, Accounts}
 use Rattle.ci_memory.specs.Changes.{is_unsettled}
 use Rattle.ci_machine_steps.proofs.Behind.{in_either, has_left, has_right}
-use Rattle.ci_memory.proofs.Found.{any_none, find_implied, find_none, find_put, put_has_it, found_none}
+use Rattle.ci_machine.proofs.Filters.{find_implied}
+use Rattle.ci_machine.proofs.Found.{any_none, find_none, find_put, put_here, found_none}
 
 abbrev pub id : Pipeline → ℕ
 id p = p.id
@@ -100,7 +101,7 @@ module _ (n : ℕ) (ps : List Pipeline) (alone : List Pipeline) (none : list_any
   pub after_removal : (us : List Unfinished) (suspects : List ℕ) → Covers ps us alone suspects → Covers (without id n ps) us alone suspects
   after_removal us suspects c = record {
     covered = c.covered;
-    there = λ p h. find_implied (λ q. q.id == p.id) (λ q. not (is_eq (nat_cmp q.id n))) ps (λ q e. unequal q.id n (λ f. another p h (sym (eqb-true q.id p.id e) ∙ f))) ∙ c.there p h;
+    there = λ p h. find_implied (λ q. q.id == p.id) (λ q. not (is_eq (nat_cmp q.id n))) ps (λ q k e. unequal q.id n (λ f. another p h (sym (eqb-true q.id p.id e) ∙ f))) ∙ c.there p h;
     newest = λ p h.
         find_none (is_newer_of p) (without id n ps)
         (λ r m. found_none (is_newer_of p) r ps (c.newest p h) (has_filter (λ q. not (is_eq (nat_cmp q.id n))) r ps m).0);
@@ -181,7 +182,7 @@ module _ (v : Unfinished) (ps : List Pipeline) (us : List Unfinished) (alone : L
   named_put : (n : ℕ) → Named number n us → Named number n (put unfinished_cmp v us)
   named_put n w =
       ⊎_elim
-      (λ e. (v, (put_has_it unfinished_cmp v us, sym (same w.0.pipeline v.pipeline e) ∙ w.1.1)))
+      (λ e. (v, (put_here unfinished_cmp v us, sym (same w.0.pipeline v.pipeline e) ∙ w.1.1)))
       (λ f. (w.0, (put_has unfinished_cmp v w.0 us w.1.0 (ap not f), w.1.1)))
       (cases_Bool (is_eq (nat_cmp w.0.pipeline v.pipeline)))
 
@@ -195,7 +196,7 @@ module _ (v : Unfinished) (ps : List Pipeline) (us : List Unfinished) (alone : L
     newest = c.newest;
     alone_open = λ p h. named_put p.id (c.alone_open p h);
     suspects_open = λ n h.
-        ⊎_elim (λ s. named_put n (c.suspects_open n s)) (λ l. ⊎_elim (λ e. (v, (put_has_it unfinished_cmp v us, sym e))) (λ m. absurd m) l)
+        ⊎_elim (λ s. named_put n (c.suspects_open n s)) (λ l. ⊎_elim (λ e. (v, (put_here unfinished_cmp v us, sym e))) (λ m. absurd m) l)
         (in_either n suspects (v.pipeline ∷ []) h);
   }
 

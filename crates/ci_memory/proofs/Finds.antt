@@ -6,7 +6,7 @@ use Rattle.std.proofs.lemmas.Slice.Eq.{bytes_eq-Decides}
 use Rattle.ci_machine_steps.specs.Prelude.{Key, Record, RowChange, Put, Remove, Project, State, others, project_cmp, changed}
 use Rattle.ci_machine.proofs.Keyed.{has_filter, has_find, has_from_all, All-from_has, unequal}
 use Rattle.ci_memory.specs.Projects.{IsFound, is_of_project}
-use Rattle.ci_memory.proofs.Found.{find_placed}
+use Rattle.ci_machine.proofs.Found.{find_placed}
 
 -- one that is found is found still among those of which it is one
 find_left : {A : Type 0} (test left : A → Bool) (x : A) (xs : List A) → find test xs ≡ Some x → left x ≡ true → find test (filter left xs) ≡ Some x

@@ -9,7 +9,7 @@ use Rattle.ci_machine.proofs.Keyed.{Has, Rising, Named, rising_from, rising_filt
 use Rattle.ci_memory.specs.Redundant.{is_superseded, if_superseded, superseded_at, IsLeast, lesser}
 use Rattle.ci_machine_steps.proofs.Behind.{in_either, has_left, has_right}
 use Rattle.ci_memory.proofs.Covers.{Covers, number, id}
-use Rattle.ci_memory.proofs.Found.{found_none}
+use Rattle.ci_machine.proofs.Found.{found_none}
 use Rattle.ci_memory.proofs.Supersedes.{or_first, first_found, first_is_redundant, superseded_by}
 
 -- ---- by membership

@@ -4,7 +4,6 @@ mod Finds
 mod Listed
 pub mod Quiets
 pub mod Rights
-pub mod Found
 pub mod Covers
 pub mod Stays
 pub mod Supersedes

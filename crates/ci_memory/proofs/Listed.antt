@@ -9,7 +9,8 @@ use Rattle.ci_machine.proofs.Keyed.{Has, has_filter, has_from_all, All-from_has,
 use Rattle.ci_memory_boards.proofs.Lists.{all_found}
 use Rattle.ci_memory.specs.declared.newest.NewestList.{NewestList}
 use Rattle.ci_memory.specs.Newest.{IsList, is_of_list}
-use Rattle.ci_memory.proofs.Found.{any_none, filter_both, filter_placed}
+use Rattle.ci_machine.proofs.Found.{any_none, filter_placed}
+use Rattle.ci_machine.proofs.Filters.{filter_both}
 
 -- the first of a list stay where only others go
 take_kept : {A : Type 0} (n : ℕ) (p : A → Bool) (xs : List A) → ((x : A) → Has x (take n xs) → p x ≡ true) → take n (filter p xs) ≡ take n xs

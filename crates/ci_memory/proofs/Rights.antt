@@ -7,7 +7,7 @@ use Rattle.ci_memory.specs.declared.leases.Leases.{Leases}
 use Rattle.ci_memory.specs.declared.leases.Limit.{Limit}
 use Rattle.ci_memory.specs.declared.leases.Quiet.{Quiet}
 use Rattle.ci_memory.specs.Quiet.{AreRightOf, IsQuiet, IsLimit, IsWithin, IsWider}
-use Rattle.ci_memory.proofs.Found.{put_other, put_same, without_other}
+use Rattle.ci_machine.proofs.Found.{put_other, put_same, without_other}
 use Rattle.ci_memory.proofs.Quiets.{quiet_put, quiet_jobs, quiet_fewer}
 
 pub at_some : {A : Type 0} (P : A → Type 0) (o : Option A) (x : A) → o ≡ Some x → IfSome o P → P x

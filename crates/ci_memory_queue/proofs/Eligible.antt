@@ -14,7 +14,7 @@ use Rattle.ci_memory_queue.specs.Covers.{asked_by, asks_at, is_pending_at, IsAmo
 use Rattle.ci_memory_queue.specs.Offers.{UpTo, IsPendingOf, IsBest}
 use Rattle.ci_memory_queue.specs.Turns.{is_free_at}
 use Rattle.ci_memory_queue.specs.Notes.{Noted}
-use Rattle.ci_memory_queue.proofs.Found.{find_none}
+use Rattle.ci_machine.proofs.Found.{find_none}
 use Rattle.ci_memory_queue.proofs.Sorts.{all_sorted}
 use Rattle.ci_memory_queue.proofs.Waits.{mapped_from}
 

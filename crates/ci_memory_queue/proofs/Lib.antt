@@ -1,6 +1,5 @@
 pub mod Sets
 pub mod Sorts
-pub mod Found
 pub mod Noting
 pub mod Filling
 pub mod Commits

@@ -8,7 +8,7 @@ use Rattle.ci_store.specs.Prelude.{row_at}
 use Rattle.ci_server_lookups.proofs.Changes.{state_stays, board_stays}
 use Rattle.ci_memory_queue.specs.Notes.{Noted, with_note, job_noted, record_noted, removal_noted, change_noted, changes_noted, row_noted, rows_noted, noted}
 use Rattle.ci_memory_queue.specs.Places.{counts_as}
-use Rattle.ci_memory_queue.proofs.Found.{put_other, put_same, without_other, without_same}
+use Rattle.ci_machine.proofs.Found.{put_other, put_same, without_other, without_same}
 use Rattle.ci_memory_queue.proofs.Waits.{then_from, mapped_from}
 
 is_noted : (fresh : List ℕ) (job n : ℕ) → n ≡ job → Contains (fresh ++ job ∷ []) n

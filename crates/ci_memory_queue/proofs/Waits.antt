@@ -13,7 +13,8 @@ use Rattle.ci_machine.proofs.Keyed.{Has, has_find}
 use Rattle.ci_machine.proofs.Tests.{has_any}
 use Rattle.ci_machine_statuses.proofs.Grants.{pending_is}
 use Rattle.ci_server_lookups.specs.Prelude.{IsKept, is_past, IsTurn}
-use Rattle.ci_server_lookups.proofs.Holds.{has_flat, held_by_row}
+use Rattle.ci_machine_steps.proofs.Behind.{flat_has}
+use Rattle.ci_server_lookups.proofs.Holds.{held_by_row}
 use Rattle.ci_memory_queue.specs.declared.queue.Asks.{Asks}
 use Rattle.ci_memory_queue.specs.declared.turns.Turn.{Turn}
 use Rattle.ci_memory_queue.specs.Covers.{asked_by, asks_at, is_pending_at}
@@ -74,7 +75,7 @@ module _ (s : State) (board : List _) (n : ℕ) (asks : Asks) (group : List ℕ)
       let one : Has (waits asks.project (pipeline_for s n) group) (waits_for (project_or_none (pipeline_at s j.pipeline)) j.pipeline true j.options.resource_group) =
       subst (λ (o : Option (List ℕ)). Has (waits asks.project (pipeline_for s n) group) (waits_for (project_or_none (pipeline_at s j.pipeline)) j.pipeline true o)) (sym grouped)
       (inl (λ i. waits (sym project i) (line i) group)) in
-      has_flat (λ (x : Job). waits_as (queued s x) (status_for board x.id)) (waits asks.project (pipeline_for s n) group) j s.jobs there.0
+      flat_has (λ (x : Job). waits_as (queued s x) (status_for board x.id)) (waits asks.project (pipeline_for s n) group) j s.jobs there.0
       (subst (λ (t : Status). Has (waits asks.project (pipeline_for s n) group) (waits_as (queued s j) t)) (sym status) one)
 
   -- so it goes before those of the pipelines that its own goes before

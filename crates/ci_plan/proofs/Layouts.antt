@@ -18,10 +18,6 @@ named_at [] k i lt = absurd (omega (arith, lt))
 named_at (j ∷ is) zero i lt = refl
 named_at (j ∷ is) (suc k) i lt = named_at is k i (omega (arith, lt))
 
-pub named_firsts : (is : List Meant) (ps : List ℕ) (k : ℕ) → map (λ (p : ℕ × ℕ). name_at is p.0) (map (λ i. (i, k)) ps) ≡ map (name_at is) ps
-named_firsts is [] k = refl
-named_firsts is (p ∷ ps) k = ap (λ (ns : List Text). name_at is p ∷ ns) (named_firsts is ps k)
-
 laid : (g : Given) (c : Config) (p : layout.Plan) → Plans g c (Ok p) → Plans g c (Ok (laid_out g c))
 laid g c p (planned none acyclic) = planned none acyclic
 

@@ -36,42 +36,20 @@ pub(crate) fn names_at(
     Ok(Items::new(names))
 }
 
-/// The names of the jobs at the first positions of these pairs.
-fn names_of_firsts(
-    alloc: Global,
-    jobs: &[IncludedJob],
-    pairs: &[(usize, usize)],
-) -> Result<Texts, AllocError>
-    ensures { IfOk result (λ names. names ≡ map (λ p. name_at (map included_view jobs.now) p.0) pairs.now) }
-{
-    let mut names = Vec::new(alloc);
-    for pair in pairs {
-        names.push(Text::copy_of(alloc, name_at(jobs, pair.0))?)?;
-    }
-    Ok(Items::new(names))
-}
-
-/// The names of the jobs for which the job at a position waits.
-fn waits_for(
-    alloc: Global,
-    lineup: &Lineup,
-    job: &IncludedJob,
-    place: usize,
-) -> Result<Texts, AllocError>
+/// The names of the jobs for which a job waits.
+fn waits_for(alloc: Global, lineup: &Lineup, job: &IncludedJob) -> Result<Texts, AllocError>
     requires { IsPlaced lineup.now }
     ensures { IfOk result (λ names. names ≡ map (name_at (jobs_of lineup.now)) (predecessors (stages_of lineup.now) (jobs_of lineup.now) (included_view job.now))) }
 {
-    let mut pairs = Vec::new(alloc);
-    lineup.put_predecessors(&mut pairs, job, place)?;
-    names_of_firsts(alloc, &lineup.jobs, &pairs)
+    let places = lineup.predecessors(alloc, job)?;
+    names_at(alloc, &lineup.jobs, &places)
 }
 
-/// What is told of the job at a position.
+/// What is told of a job.
 fn planned_job(
     alloc: Global,
     lineup: &Lineup,
     job: &IncludedJob,
-    place: usize,
 ) -> Result<PlannedJob, AllocError>
     requires { IsPlaced lineup.now }
     ensures { IfOk result (λ p. p ≡ planned_job (stages_of lineup.now) (jobs_of lineup.now) (included_view job.now)) }
@@ -81,7 +59,7 @@ fn planned_job(
         stage: Text::copy_of(alloc, job.job.stage)?,
         when: job.when,
         rule: job.rule,
-        waits_for: waits_for(alloc, lineup, job, place)?,
+        waits_for: waits_for(alloc, lineup, job)?,
     })
 }
 
@@ -91,8 +69,8 @@ pub(crate) fn planned_jobs(alloc: Global, lineup: &Lineup) -> Result<Items<Plann
     ensures { IfOk result (λ ps. ps ≡ planned_jobs (stages_of lineup.now) (jobs_of lineup.now)) }
 {
     let mut jobs = Vec::new(alloc);
-    for (i, job) in lineup.jobs.iter().enumerate() {
-        jobs.push(planned_job(alloc, lineup, job, i)?)?;
+    for job in &lineup.jobs {
+        jobs.push(planned_job(alloc, lineup, job)?)?;
     }
     Ok(Items::new(jobs))
 }

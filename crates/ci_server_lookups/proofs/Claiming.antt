@@ -11,7 +11,7 @@ use Rattle.ci_machine.proofs.Claims.{free_append, free_held, free_ahead}
 use Rattle.ci_machine.proofs.Keyed.{Has, has_from_all, All-from_has}
 use Rattle.ci_machine.proofs.Tests.{any_has, has_any, any_joined}
 use Rattle.ci_server_lookups.specs.Prelude.{is_unheld, HoldAlike, FreeAlike, claim_if, ahead_for}
-use Rattle.ci_server_lookups.proofs.Holds.{has_flat}
+use Rattle.ci_machine_steps.proofs.Behind.{flat_has}
 use Rattle.ci_server_lookups.proofs.OpenRows.{same_test}
 
 -- ---- of one group
@@ -85,7 +85,7 @@ module _ (g : Groups) (n project : ℕ) where
         let from = any_has (λ i. list_any claims (for_job i)) jobs (any_joined claims for_job jobs ∙ e) in
         let w = any_has claims (for_job from.0) from.1.1 in
         found_behind from.0.options.resource_group group w.0 w.1.0 w.1.1)
-        (λ e. has_any claims (claim group) gathered (has_flat for_job (claim group) j jobs k (behind_found j.options.resource_group group its e)) (own_claim group)))
+        (λ e. has_any claims (claim group) gathered (flat_has for_job (claim group) j jobs k (behind_found j.options.resource_group group its e)) (own_claim group)))
         ∙ sym (free_ahead g n project group)
 
     pub gathered_ahead : FreeAlike gathered (claims_ahead g n) project jobs

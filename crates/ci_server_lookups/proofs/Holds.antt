@@ -1,6 +1,6 @@
 -- Resource groups, by the holders that are looked up and by those of the state.
-use Rattle.std.proofs.Common.{◌≡◌, ◌⊎◌, ℕ, ◌+◌, ◌<◌, ◌||◌, cond, not, Bool, true, false, List, [], ◌∷◌, ◌++◌, length, take, find, flat_map, Contains, Option, Some, None, is_some}
-use Rattle.std.proofs.Common.{option_to_list, slice_index_or, refl, sym, ap, subst, ◌∙◌, inl, inr, ⊎_elim}
+use Rattle.std.proofs.Common.{◌≡◌, ℕ, ◌+◌, ◌<◌, ◌||◌, cond, not, Bool, true, false, List, [], ◌∷◌, ◌++◌, length, take, find, flat_map, Contains, Option, Some, None, is_some}
+use Rattle.std.proofs.Common.{option_to_list, slice_index_or, refl, sym, ap, subst, ◌∙◌, inl, ⊎_elim}
 use Rattle.std.specs.List.{list_any}
 use Rattle.std.proofs.lemmas.Bool.{cond_both, both_ways}
 use Rattle.std.proofs.lemmas.List.{append-nil}
@@ -8,6 +8,7 @@ use Rattle.std.proofs.lemmas.List.Elements.{filter_more}
 use Rattle.ci_machine_steps.specs.Prelude.{Holder, Job, State, holds, holders, holder_at, AreHolders, IndexChange}
 use Rattle.ci_machine.proofs.Keyed.{Has, has_find, has_from_all, has_from_contains, All-from_has}
 use Rattle.ci_machine.proofs.Tests.{any_has, has_any, any_joined}
+use Rattle.ci_machine_steps.proofs.Behind.{flat_has}
 use Rattle.ci_server_lookups.specs.Prelude.{is_unheld, HoldAlike, holder_for, frees, still_held}
 use Rattle.ci_server_lookups.proofs.OpenRows.{same_test}
 
@@ -15,19 +16,6 @@ use Rattle.ci_server_lookups.proofs.OpenRows.{same_test}
 
 one_way : {A : Type 0} (p : A → Bool) (xs ys : List A) → ((x : A) → Has x xs → p x ≡ true → Has x ys) → list_any p xs ≡ true → list_any p ys ≡ true
 one_way p xs ys f e = let w = any_has p xs e in has_any p w.0 ys (f w.0 w.1.0 w.1.1) w.1.1
-
-has_left : {A : Type 0} (x : A) (xs ys : List A) → Has x xs → Has x (xs ++ ys)
-has_left x [] ys h = absurd h
-has_left x (y ∷ xs) ys h = ⊎_elim (λ e. inl e) (λ m. inr (has_left x xs ys m)) h
-
-has_right : {A : Type 0} (x : A) (xs ys : List A) → Has x ys → Has x (xs ++ ys)
-has_right x [] ys h = h
-has_right x (y ∷ xs) ys h = inr (has_right x xs ys h)
-
-pub has_flat : {A B : Type 0} (f : A → List B) (y : B) (x : A) (xs : List A) → Has x xs → Has y (f x) → Has y (flat_map f xs)
-has_flat f y x [] h k = absurd h
-has_flat f y x (z ∷ zs) h k =
-    ⊎_elim (λ e. has_left y (f z) (flat_map f zs) (subst (λ (w : _). Has y (f w)) e k)) (λ m. has_right y (f z) (flat_map f zs) (has_flat f y x zs m k)) h
 
 -- ---- the rows, and the holders of the state
 
@@ -88,7 +76,7 @@ module _ (project : ℕ) (rows : List Holder) (jobs : List Job) where
       go (Some h) is =
           let there = has_find (holds project group) h rows is in
           has_any (holds project group) h gathered
-          (has_flat for_job h j jobs k (subst (λ (o : Option (List ℕ)). Has h (holder_for project rows o)) (sym its) (listed_has (holder_at project group rows) h is)))
+          (flat_has for_job h j jobs k (subst (λ (o : Option (List ℕ)). Has h (holder_for project rows o)) (sym its) (listed_has (holder_at project group rows) h is)))
           there.1
 
   alike_for : (j : Job) (group : Option (List ℕ)) → Has j jobs → j.options.resource_group ≡ group → is_unheld gathered project group ≡ is_unheld rows project group

@@ -1,10 +1,11 @@
 -- The finished pipeline of least number that is old enough is the first such one of those that were looked up.
-use Rattle.std.proofs.Common.{◌≡◌, ℕ, zero, suc, ◌<◌, ◌==◌, ◌&&◌, nat_lt, not, cond, Bool, true, false, List, [], ◌∷◌, length, filter, find, take, Contains, Option, Some, None}
-use Rattle.std.proofs.Common.{is_some, refl, sym, ap, subst, ◌∙◌, inl, inr, ⊎_elim, eqb-true, eq-eqb}
+use Rattle.std.proofs.Common.{◌≡◌, ℕ, zero, suc, ◌<◌, ◌==◌, ◌&&◌, nat_lt, not, cond, Bool, true, List, [], ◌∷◌, length, filter, find, take, Contains, Option, Some, None}
+use Rattle.std.proofs.Common.{is_some, refl, sym, ap, subst, ◌∙◌, inl, inr, eqb-true, eq-eqb}
 use Rattle.std.specs.List.{list_any}
 use Rattle.std.proofs.lemmas.Bool.{cond_both, cond-true, cond-false, false≢true}
 use Rattle.ci_machine_steps.specs.Prelude.{Pipeline, Unfinished, is_open_in, unfinished_in, Kept, prunable_in}
 use Rattle.ci_machine.proofs.Keyed.{Has, Rising, one_at, has_filter, filter_has, has_from_all, has_from_contains}
+use Rattle.ci_machine.proofs.Found.{find_none, found_none}
 use Rattle.ci_machine.proofs.Tests.{any_mapped, any_has, has_any}
 use Rattle.ci_store.specs.Prelude.{made_before, AreSome}
 use Rattle.ci_server_lookups.specs.Prelude.{AreOpen}
@@ -31,17 +32,6 @@ found_first q x (suc n) (y ∷ ys) e =
     cond_both (q y) (Some y) (find q (take n ys)) (λ o. o ≡ Some x → find q (y ∷ ys) ≡ Some x)
     (λ t k. cond-true (q y) (Some y) (find q ys) t ∙ k)
     (λ f k. cond-false (q y) (Some y) (find q ys) f ∙ found_first q x n ys k) e
-
-none_passes : {A : Type 0} (q : A → Bool) (x : A) (xs : List A) → find q xs ≡ None → Has x xs → q x ≡ false
-none_passes q x [] e h = absurd h
-none_passes q x (y ∷ ys) e h =
-    cond_both (q y) (Some y) (find q ys) (λ o. o ≡ None → q x ≡ false)
-    (λ t k. absurd (cc))
-    (λ f k. ⊎_elim (λ s. ap q s ∙ f) (λ m. none_passes q x ys k m) h) e
-
-none_found : {A : Type 0} (q : A → Bool) (xs : List A) → ((x : A) → Has x xs → q x ≡ false) → find q xs ≡ None
-none_found q [] none = refl
-none_found q (x ∷ xs) none = cond-false (q x) (Some x) (find q xs) (none x (inl refl)) ∙ none_found q xs (λ y k. none y (inr k))
 
 pub not_some : {A : Type 0} (o : Option A) → not (is_some o) ≡ true → o ≡ None
 not_some None e = refl
@@ -87,5 +77,5 @@ module _ (k : Kept) (rise : Rising (λ (p : Pipeline). p.id) 0 k.state.pipelines
       → None ≡ prunable_in k.state k.board before
   none_is_prunable count some are few found =
       let all = made_before before k.state.pipelines in
-      sym (as_found ∙ none_found (λ q. not (is_listed q)) all
-      (λ p h. none_passes (λ q. not (is_listed q)) p some found (has_from_contains p some (has_from_all (Contains some) p all (are.whole few) h))))
+      sym (as_found ∙ find_none (λ q. not (is_listed q)) all
+      (λ p h. found_none (λ q. not (is_listed q)) p some found (has_from_contains p some (has_from_all (Contains some) p all (are.whole few) h))))

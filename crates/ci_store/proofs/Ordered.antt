@@ -2,7 +2,7 @@
 use Rattle.std.proofs.Common.{◌≡◌, ℕ, List, [], ◌∷◌, map, filter, Bool, refl, sym, ap, subst, ◌∙◌, IsPermutation, Less}
 use Rattle.std.specs.Cmp.{IsTotalOrder}
 use Rattle.std.proofs.lemmas.List.Sorted.{IsPermutation-map, IsPermutation-sym, IsPermutation-trans}
-use Rattle.ci_store.specs.Prelude.{Row, Term, Output, output, output_cmp, key_cmp, limited, Table, Schema, Shown, IsAscending, places, image, Holds}
+use Rattle.ci_store.specs.Prelude.{Row, Term, Output, output, output_cmp, limited, Table, Schema, Shown, IsAscending, places, image, Holds}
 use Rattle.sqlite_value.specs.declared.keys.Key.{Key}
 use Rattle.sqlite.specs.State.{State}
 use Rattle.sqlite.proofs.Callers.{reads_as}
@@ -11,9 +11,6 @@ use Rattle.sqlite_rules.proofs.ListLemmas.{all_from}
 use Rattle.sqlite_trees.proofs.ListLemmas.{IsPermutation-filter, filter-map, filter_same}
 use Rattle.ci_store.proofs.Queries.{query, picks, count_of, answered_to, map_map}
 use Rattle.ci_store.proofs.Selects.{MeansSelectTo}
-
-pub no_key_total : IsTotalOrder (key_cmp 1 [])
-no_key_total = record { antisymm = λ x y. refl; trans = λ x y z p q. p; congr = λ x y z p. refl }
 
 module _ (limit : Term) (schema : Schema) (table : Table) (text : List ℕ) (tests shown : List Term) (order : List (Term × Key)) (names : List (List ℕ)) (means : MeansSelectTo limit schema table text tests shown order names)
     (key : Row) (test : Row → Bool) (tested : (r : Row) → picks tests key r ≡ test (image (places table) r))

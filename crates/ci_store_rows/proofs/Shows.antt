@@ -377,7 +377,3 @@ pub falling_within : {X : Type 0} (id : X → ℕ) (passes : X → Bool) (xs : L
 falling_within id passes xs up =
     ascending_weaker _ _ (λ x y h. rising_number (id y) (id x) h) (filter passes (reverse xs))
     (subst (IsAscending (λ x y. nat_cmp (id y) (id x) ≡ Less)) (sym (filter-reverse passes xs)) (ascend_turned _ (filter passes xs) up))
-
-pub falling_numbers : {X : Type 0} (id : X → ℕ) (passes : X → Bool) (xs : List X) → IsAscending (λ x y. nat_cmp (id x) (id y) ≡ Less) xs
-    → IsAscending (λ x y. ordering_then (by_key (record { collation = Binary; descending = true }) (number (id x)) (number (id y))) Equal ≡ Less) (filter passes (reverse xs))
-falling_numbers id passes xs up = falling_within id passes xs (ascending-filter _ passes xs up)

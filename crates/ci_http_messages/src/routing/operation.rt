@@ -39,9 +39,7 @@ pub enum Operation<K> {
     CancelJob(u64, u64),
     /// POST `/api/v4/projects/:id/jobs/:n/retry`: a job is to be tried again.
     RetryJob(u64, u64),
-    /// GET `/api/v4/projects/:id`, or a path below it that tells what the project has: its `/pipelines`, the jobs of one of these
-    /// (`/pipelines/:n/jobs`), the attempts of a job (`/jobs/:n/attempts`), the trace of one of these (`/jobs/:n/attempts/:m/trace`),
-    /// or its `/resource_groups`.
+    /// GET `/api/v4/projects/:id`, or a path below it that tells what the project has: the subject says what.
     Read(u64, Subject),
     /// GET `/-/health`: is the server open?
     Health,

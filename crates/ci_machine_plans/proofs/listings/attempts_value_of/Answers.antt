@@ -3,8 +3,7 @@ use Rattle.std.proofs.lemmas.Grind.{common_steps}
 use Rattle.serde_json.specs.Data.{array}
 use Rattle.serde_json.specs.View.{view, items_of}
 use Rattle.serde_json.proofs.Views.{view-Array}
-use Rattle.ci_machine_steps.specs.Prelude.{attempt_data}
-use Rattle.ci_machine.specs.Listings.{attempts_among}
+use Rattle.ci_machine_steps.specs.Prelude.{attempt_data, attempts_among}
 use Rattle.ci_machine_plans.proofs.listings.attempts_value_of.Goals as goal
 
 pub returns : goal.returns

@@ -1,4 +1,5 @@
-use Rattle.ci_machine_steps.proofs.Layers.{merged_ascend, merged_mean, layers_mean}
+use Rattle.ci_graph_layout.proofs.FirstLayers.{layers_mean}
+use Rattle.ci_machine_steps.proofs.Layers.{merged_ascend, merged_mean}
 use Rattle.ci_machine_steps.proofs.laws.variables_are_of_their_first_layers.Goals as goal
 
 pub returns-clause-ascend : goal.returns-clause-ascend

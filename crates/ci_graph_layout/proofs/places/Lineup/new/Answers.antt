@@ -1,8 +1,7 @@
 use Rattle.std.proofs.Common.{◌≡◌, List, map, ap, ◌∙◌, flat_map}
 use Rattle.ci_expr.proofs.Answering.{answered_each}
-use Rattle.ci_graph_layout.specs.Prelude.{words_view, config_view, job_looks, Text, Decided, decided, ruled_by_stage, given_view, decided_view}
+use Rattle.ci_graph_layout.specs.Prelude.{words_view, config_view, job_looks, Text, Decided, decided, by_stage, given_view, decided_view}
 use Rattle.ci_graph_layout.specs.declared.inclusion.Decided as rust
-use Rattle.ci_graph_layout.proofs.Deciding.{staged_same}
 use Rattle.ci_graph_layout.proofs.places.Lineup.new.Goals as goal
 
 pub decide_all-requires : goal.decide_all-requires
@@ -16,9 +15,8 @@ returns-clause-lineup c =
     record {
       stages = stages;
       jobs = c.in_ok-jobs.ensures
-          ∙ ap (λ (ds : List rust.Decided). ruled_by_stage (map decided_view ds) (words_view c.as_slice-stages.result.now)) c.deref.ensures.value
-          ∙ ap (λ (ds : List Decided). ruled_by_stage ds (words_view c.as_slice-stages.result.now)) c.in_ok-decided.ensures
-          ∙ ap (λ (ss : List Text). ruled_by_stage (decided g k) ss) stages
-          ∙ staged_same g k k.stages;
+          ∙ ap (λ (ds : List rust.Decided). by_stage (map decided_view ds) (words_view c.as_slice-stages.result.now)) c.deref.ensures.value
+          ∙ ap (λ (ds : List Decided). by_stage ds (words_view c.as_slice-stages.result.now)) c.in_ok-decided.ensures
+          ∙ ap (λ (ss : List Text). by_stage (decided g k) ss) stages;
       decided = c.in_ok-decided.ensures;
     }

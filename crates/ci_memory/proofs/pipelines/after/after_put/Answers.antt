@@ -4,7 +4,7 @@ use Rattle.ci_machine_steps.specs.Prelude.{Pipeline, Record, with_record}
 use Rattle.ci_memory.specs.Known.{Known}
 use Rattle.ci_memory.specs.Alone.{Accounts}
 use Rattle.ci_memory.specs.Changes.{is_unsettled}
-use Rattle.ci_memory.proofs.Found.{any_none}
+use Rattle.ci_machine.proofs.Found.{any_none}
 use Rattle.ci_memory.proofs.Covers.{covers, accounts, after_put, after_put_alone}
 use Rattle.ci_memory.proofs.pipelines.after.after_put.Goals as goal
 
