@@ -10,3 +10,4 @@ pub mod TokenLemmas
 pub mod OrderLemmas
 pub mod Gathering
 pub mod Answering
+pub mod Further
