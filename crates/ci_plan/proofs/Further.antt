@@ -12,6 +12,10 @@ module _ {A B : Type 0} where
       ∙ ap (λ bs. now ++ bs) (sym (at_drop_more rest xs i d lt ∙ gives (get_or xs i d) (drop (i + 1) xs)))
       ∙ was
 
+  pub item_further : (rest : List A → List B) (piece : A → List B) (xs : List A) (now : List B) {i : ℕ} {x : A} {new before : List B} → ((y : A) (ys : List A) → rest (y ∷ ys) ≡ piece y ++ rest ys)
+      → i < length xs → x ≡ get_or xs i x → new ≡ now ++ piece x → now ++ rest (drop i xs) ≡ before → new ++ rest (drop (i + 1) xs) ≡ before
+  item_further rest piece xs now {x = x} gives lt here is was = further rest piece xs x now gives lt (is ∙ ap (λ y. now ++ piece y) here) was
+
   pub lines_further : (line : A → List B) (xs : List A) (now : List B) {i : ℕ} {x : A} {new before : List B} → i < length xs → x ≡ get_or xs i x → new ≡ now ++ line x
       → now ++ flat_map line (drop i xs) ≡ before → new ++ flat_map line (drop (i + 1) xs) ≡ before
   lines_further line xs now {x = x} lt here is was = further (flat_map line) line xs x now (λ y ys. refl) lt (is ∙ ap (λ y. now ++ line y) here) was
