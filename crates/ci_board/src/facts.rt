@@ -65,7 +65,7 @@ pub struct Facts {
 }
 
 /// What a job's status means to a job behind it.
-#[derive(Clone, Copy, Debug, PartialEq, Eq, Drop)]
+#[derive(Clone, Copy, PartialEq, Eq, Drop)]
 pub enum Effect {
     /// The job behind may run.
     Good,
@@ -78,7 +78,7 @@ pub enum Effect {
 }
 
 /// A job's status, and how many of its predecessors are open, count as failed, and bar it.
-#[derive(Clone, Copy, Debug, Drop)]
+#[derive(Clone, Copy, Drop)]
 pub struct Row {
     pub status: Status,
     pub opens: usize,

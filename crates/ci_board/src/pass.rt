@@ -14,7 +14,7 @@ use ci_graph::part::Part;
 use std::sync::ledger::Ledger;
 
 /// What a job means to one behind it that gives `needs`, and to one that doesn't.
-#[derive(Clone, Copy, Debug, Drop)]
+#[derive(Clone, Copy, Drop)]
 pub struct Effects {
     pub with_needs: Effect,
     pub without: Effect,

@@ -12,7 +12,7 @@ use ci_graph::part::Part;
 use ci_values::attempts::AttemptState;
 
 /// What is asked of a job.
-#[derive(Clone, Copy, Debug, Drop)]
+#[derive(Clone, Copy, Drop)]
 pub enum Question {
     Has(Status),
     /// Has it the status, and isn't allowed to?

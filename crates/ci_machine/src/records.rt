@@ -26,7 +26,7 @@ pub struct Project {
 }
 
 /// A variable of a project: the jobs of its pipelines are given it.
-#[derive(Clone, Drop)]
+#[derive(Drop)]
 pub struct Variable {
     pub project: u64,
     pub key: Text,
@@ -49,14 +49,14 @@ pub struct Runner {
 }
 
 /// What a pipeline's ref names.
-#[derive(Clone, Copy, PartialEq, Eq, Drop)]
+#[derive(Clone, Copy, Drop)]
 pub enum RefKind {
     Branch,
     Tag,
 }
 
 /// What made a pipeline, as `CI_PIPELINE_SOURCE` gives it.
-#[derive(Clone, Copy, PartialEq, Eq, Drop)]
+#[derive(Clone, Copy, Drop)]
 pub enum Source {
     Push,
     Web,
@@ -171,21 +171,21 @@ pub struct Job {
 }
 
 /// A pipeline, with the status that follows from its jobs.
-#[derive(Clone, Drop)]
+#[derive(Drop)]
 pub struct PipelineWithStatus {
     pub pipeline: Pipeline,
     pub status: Status,
 }
 
 /// A job that waits for a runner, or was given to one, with the project of its pipeline.
-#[derive(Clone, Drop)]
+#[derive(Drop)]
 pub struct QueuedJob {
     pub job: Job,
     pub project: u64,
 }
 
 /// What a job asks of the runner that is given it: told without the job's script.
-#[derive(Clone, Drop)]
+#[derive(Drop)]
 pub struct Demand {
     pub job: u64,
     /// Its pipeline, whose project the runner must be open to.
@@ -274,7 +274,7 @@ pub struct Attempt {
 }
 
 /// An attempt with its job.
-#[derive(Clone, Drop)]
+#[derive(Drop)]
 pub struct AttemptWithJob {
     pub attempt: Attempt,
     pub queued: QueuedJob,
@@ -320,7 +320,7 @@ pub struct GroupMode {
 }
 
 /// A job with a resource group that is created or pending. It is told of one that waits: no table has it.
-#[derive(Clone, Drop)]
+#[derive(Drop)]
 pub struct WaitingJob {
     /// The project of its pipeline.
     pub project: u64,

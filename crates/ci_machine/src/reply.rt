@@ -84,7 +84,7 @@ pub enum Code {
 }
 
 /// The code of a fault of what is to be made: the letter of its kind and its number, as `K11`.
-#[derive(Clone, Copy, PartialEq, Eq, Drop)]
+#[derive(Clone, Copy, Drop)]
 pub enum FaultCode {
     /// Of the graph of a pipeline's jobs.
     G(u8),
@@ -119,7 +119,7 @@ pub enum JobStatus {
 }
 
 /// A method that a path may have (RFC 9110, section 9).
-#[derive(Clone, Copy, PartialEq, Eq, Drop)]
+#[derive(Clone, Copy, Drop)]
 pub enum Method {
     Delete,
     Get,

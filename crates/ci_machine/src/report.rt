@@ -12,7 +12,7 @@ use crate::text::Text;
 use ci_board::facts::Status;
 
 /// The status of a job as users are told it: where it is pending, also whether it waits for its resource group.
-#[derive(Clone, Copy, PartialEq, Eq, Drop)]
+#[derive(Clone, Copy, Drop)]
 pub enum ShownStatus {
     /// This status. A pending job waits for a runner alone.
     Plain(Status),

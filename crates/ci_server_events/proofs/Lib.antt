@@ -14,3 +14,4 @@ pub mod Sheets
 pub mod GroupLists
 mod ReportTelling
 mod ReportJobs
+mod Further

@@ -1,13 +1,13 @@
 //! The pending jobs, as a report tells them.
 
 ghost use Rattle.std.specs.Prelude.{◌≡◌, Some, map, option_map};
-ghost use Rattle.ci_machine_steps.specs.Prelude.{job_at, queued, queue_row, queue_rows, groups_in};
+ghost use Rattle.ci_machine_steps.specs.Prelude.{job_at, pipeline_at, project_or_none, queued, queue_row, queue_rows, groups_in};
 ghost use Rattle.ci_store.specs.Prelude.{LoadsBy};
 ghost use Rattle.ci_server_lookups.specs.Prelude.{IsKept};
 ghost use Rattle.ci_server_events.specs.Told.{row_told};
 
 use ci_board::facts::Status;
-use ci_machine::records::BoardRow;
+use ci_machine::records::{BoardRow, Job};
 use ci_machine::report::{QueueRow, ShownStatus};
 use ci_machine_statuses::laws::the_queue_is_its_rows;
 use ci_server_lookups::claims::is_group_free;
@@ -48,24 +48,40 @@ fn row_of<T: Turns>(alloc: Global, store: &mut T, job: u64) -> Result<QueueRow, 
     ensures { LoadsBy T.honest T.holds T.leaves store.old store.new result
         (λ k told. IsKept k → option_map (queue_row (groups_in k.state k.board)) (option_map (queued k.state) (job_at k.state job)) ≡ Some told) }
 {
-    let Some(job) = store.job(job)? else {
-        return Err(StoreFault::Broken);
-    };
-    let Some(pipeline) = store.pipeline(job.pipeline)? else {
-        return Err(StoreFault::Broken);
-    };
+    match store.job(job)? {
+        Some(job) => told(alloc, store, &job),
+        None => Err(StoreFault::Broken),
+    }
+}
+
+/// A job that is pending.
+fn told<T: Turns>(alloc: Global, store: &mut T, job: &Job) -> Result<QueueRow, StoreFault>
+    ensures { LoadsBy T.honest T.holds T.leaves store.old store.new result
+        (λ k told. IsKept k → told ≡ queue_row (groups_in k.state k.board) (queued k.state job.now)) }
+{
+    let name = job.name.clone()?;
+    let project = project_of(store, job.pipeline)?;
     let is_free = is_group_free(
         alloc,
         store,
-        pipeline.project,
+        project,
         job.pipeline,
         &job.options.resource_group,
     )?;
-    let name = job.name.clone()?;
     Ok(QueueRow {
         job: job.id,
-        project: pipeline.project,
+        project,
         status: ShownStatus::pending(is_free),
         name,
     })
+}
+
+/// The project of the pipeline with a number.
+fn project_of<T: Store>(store: &mut T, pipeline: u64) -> Result<u64, StoreFault>
+    ensures { LoadsBy T.honest T.holds T.leaves store.old store.new result (λ k project. project ≡ project_or_none (pipeline_at k.state pipeline)) }
+{
+    match store.pipeline(pipeline)? {
+        Some(pipeline) => Ok(pipeline.project),
+        None => Err(StoreFault::Broken),
+    }
 }
