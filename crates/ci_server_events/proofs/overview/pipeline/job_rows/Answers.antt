@@ -1,4 +1,4 @@
-use Rattle.std.proofs.Common.{List, length, get_or, map, filter, ◌==◌, sym, ap, ◌∙◌}
+use Rattle.std.proofs.Common.{List, length, get_or, filter, ◌==◌, ap, ◌∙◌}
 use Rattle.std.proofs.lemmas.List.{get_or-map}
 use Rattle.ci_board.specs.Prelude.{no_row}
 use Rattle.ci_machine_steps.specs.Prelude.{Attempt, Job, Row, row_for, shown_status}
