@@ -13,8 +13,7 @@ use Rattle.std.proofs.lemmas.Map.Text.{is_eq-slice_cmp}
 use Rattle.ci_machine_steps.specs.Prelude.{Holder, Hold, State, put, Kept, indexed, indexed_all, holds, is_free, held_claim, group_held, holders, holder_cmp, AreHolders}
 use Rattle.ci_machine_steps.specs.Prelude.{without_holder, freed}
 use Rattle.ci_machine.proofs.Claims.{free_held}
-use Rattle.ci_machine.proofs.Keyed.{Has, has_filter, filter_has, has_put, put_has, equal, same, has_from_all, All-from_has, has_from_contains, contains_from_has}
-use Rattle.ci_machine.proofs.Keyed.{not_true}
+use Rattle.ci_machine.proofs.Keyed.{Has, has_filter, filter_has, has_put, put_has, equal, same, has_from_all, All-from_has, has_from_contains, contains_from_has, not_true}
 use Rattle.ci_machine_steps.proofs.Variables.{Ordered, filter_ordered, put_ordered}
 use Rattle.ci_machine_statuses.proofs.HeldLists.{none_any, ordered, ascends, one_of}
 use Rattle.ci_machine.proofs.Found.{put_here}

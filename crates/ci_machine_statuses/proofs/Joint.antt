@@ -4,14 +4,13 @@ use Rattle.std.proofs.lemmas.Bool.{cond_both, eqb-false}
 use Rattle.ci_machine.specs.Prelude.{JobGraph}
 use Rattle.ci_machine_steps.specs.Prelude.{Facts, Row, AreRows, Job, BoardRow, State, put_rows, jobs_of, numbers_of, graph_of, facts_of, rows_of, row_for, AreBoard}
 use Rattle.ci_machine_steps.specs.Prelude.{graph_by, pairs_among, predecessors_by, facts_in}
-use Rattle.ci_machine.proofs.Keyed.{Has, Rising, rising_filter, has_map, map_has}
+use Rattle.ci_machine.proofs.Keyed.{Has, Rising, rising_filter, has_map, map_has, map_rises}
 use Rattle.ci_machine_steps.proofs.Sound.{Sound}
 use Rattle.ci_machine_statuses.specs.Boards.{changed_rows}
 use Rattle.ci_machine_statuses.specs.Changes.{IsWithin, HaveSameFacts}
 use Rattle.ci_machine_statuses.proofs.Puts.{number, job_of, map_same}
 use Rattle.ci_machine_statuses.proofs.RowPuts.{changed_own, changed_other, changed_keys, rises_like}
 use Rattle.ci_machine_statuses.proofs.Facts.{in_pipeline, other_pipeline}
-use Rattle.ci_machine.proofs.Keyed.{map_rises}
 
 -- ---- numbers of a pipeline
 

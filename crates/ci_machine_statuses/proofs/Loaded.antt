@@ -7,7 +7,7 @@ use Rattle.std.proofs.lemmas.List.{get_or-map, length-map}
 use Rattle.ci_machine.specs.Prelude.{is_among, IsAcyclic, JobGraph}
 use Rattle.ci_machine_steps.specs.Prelude.{BoardState, attempts_of, Job, Need, Attempt, BoardRow, State, is_within, pair_of, jobs_of, numbers_of, graph_of, facts_in, facts_of}
 use Rattle.ci_machine_steps.specs.Prelude.{rows_of, row_for, row_or_none, AreBoard, IsSound, pairs_among, predecessors_by}
-use Rattle.ci_machine.proofs.Keyed.{Has, Rising, rising_filter, map_has, has_from_all, All-from_has, filter_has, has_filter, has_map}
+use Rattle.ci_machine.proofs.Keyed.{Has, Rising, rising_filter, map_has, has_from_all, All-from_has, filter_has, has_filter, has_map, map_rises}
 use Rattle.ci_machine.proofs.Filters.{filter_implied, find_implied}
 use Rattle.ci_machine_steps.proofs.Sound.{Sound, ascend_from_rising, sound as of_sound}
 use Rattle.ci_machine_statuses.specs.Lookups.{AreRecords, AreJobsWithNeeds, tally_of, facts_by}
@@ -16,7 +16,6 @@ use Rattle.ci_machine_statuses.specs.declared.fault.StatusFault.{StatusFault}
 use Rattle.ci_machine_statuses.specs.declared.fault.StatusFault.TheVariants.{Broken}
 use Rattle.ci_machine_statuses.proofs.Puts.{job_of, number, map_same}
 use Rattle.ci_machine_statuses.proofs.Positions.{among_has, ascending, has_among}
-use Rattle.ci_machine.proofs.Keyed.{map_rises}
 use Rattle.ci_machine_statuses.proofs.Joint.{number_there, board_rises}
 use Rattle.ci_machine_statuses.proofs.Facts.{facts_with, in_pipeline}
 use Rattle.ci_machine_statuses.proofs.ActRecords.{all_attempts}

@@ -1,6 +1,5 @@
 -- A finished pipeline goes: so do the rows of its jobs, and all else beside the state is right as it is.
-use Rattle.std.proofs.Common.{◌≡◌, ℕ, Bool, true, false, ◌==◌, not, List, [], map, filter, Option, Some, None, option_map, refl, sym, ap, subst, ◌∙◌, arith}
-use Rattle.std.proofs.Common.{eqb-true, ne_eqb}
+use Rattle.std.proofs.Common.{◌≡◌, ℕ, Bool, true, false, ◌==◌, not, List, [], map, filter, Option, Some, None, option_map, refl, sym, ap, subst, ◌∙◌, arith, eqb-true, ne_eqb}
 use Rattle.std.proofs.lemmas.Bool.{both_ways, eqb-false}
 use Rattle.ci_machine.specs.Prelude.{is_among}
 use Rattle.ci_machine_steps.specs.Prelude.{AreRows, Attempt, BoardRow, Job, Need, Pipeline, QueuedJob, State, without_all, jobs_of, numbers_of, graph_by, graph_of}

@@ -5,11 +5,10 @@ use Rattle.std.specs.List.{AllByRecursion}
 use Rattle.std.proofs.lemmas.List.Elements.{All-from_recursion}
 use Rattle.ci_machine_steps.specs.Prelude.{Row, same_row, differing, BoardRow, put, row_cmp, put_rows, row_for, row_or_none}
 use Rattle.ci_board.proofs.Exact.{row_equal}
-use Rattle.ci_machine.proofs.Keyed.{Has, Rising, rising_from, find_has, map_has}
+use Rattle.ci_machine.proofs.Keyed.{Has, Rising, rising_from, find_has, map_has, map_rises, rises_from_map}
 use Rattle.ci_machine_steps.proofs.Behind.{put_all, all_behind, rising_ordered, nat_less}
 use Rattle.ci_machine_statuses.specs.Boards.{board_row, changed_rows}
 use Rattle.ci_machine_statuses.proofs.Puts.{job_of, cons_same, map_same, map_twice, swap, put_replace, row_put, row_other}
-use Rattle.ci_machine.proofs.Keyed.{map_rises, rises_from_map}
 
 -- ---- rows that are put
 

@@ -1,6 +1,5 @@
 -- The jobs that wait, as they are noted, sorted into lines, and found there.
-use Rattle.std.proofs.Common.{◌≡◌, ℕ, ◌≤◌, Bool, true, List, [], ◌++◌, map, Contains, Option, Some, None, refl, sym}
-use Rattle.std.proofs.Common.{subst, ◌∙◌, inl, inr, ⊎_elim, arith}
+use Rattle.std.proofs.Common.{◌≡◌, ℕ, ◌≤◌, Bool, true, List, [], ◌++◌, map, Contains, Option, Some, None, refl, sym, subst, ◌∙◌, inl, inr, ⊎_elim, arith}
 use Rattle.std.proofs.lemmas.Bool.{or_cases, false≢true}
 use Rattle.std.proofs.lemmas.Option.{IfSome_then, same_Some}
 use Rattle.ci_machine_steps.specs.Prelude.{Created, Pending, is_status, BoardRow, GroupOrder, OldestFirst, NewestReadyFirst, Kept, rows_with, State, waiting}

@@ -1,6 +1,5 @@
 -- The least pending job of some classes that a runner may be given, class by class.
-use Rattle.std.proofs.Common.{◌≡◌, ℕ, ◌+◌, ◌<◌, true, List, [], ◌∷◌, ◌++◌, length, take, Contains, Option, Some, None, slice_index_or, slice_set, sym, ap, subst, ◌∙◌}
-use Rattle.std.proofs.Common.{⊎_elim}
+use Rattle.std.proofs.Common.{◌≡◌, ℕ, ◌+◌, ◌<◌, true, List, [], ◌∷◌, ◌++◌, length, take, Contains, Option, Some, None, slice_index_or, slice_set, sym, ap, subst, ◌∙◌, ⊎_elim}
 use Rattle.std.proofs.lemmas.List.{take_more_set}
 use Rattle.ci_machine_steps.specs.Prelude.{Runner, may_run, Kept}
 use Rattle.ci_machine.proofs.Keyed.{has_from_contains}

@@ -11,8 +11,7 @@ use Rattle.ci_config.specs.declared.fault.ConfigCode.TheVariants.{K13}
 use Rattle.ci_graph_layout.specs.Fault as layout
 use Rattle.ci_graph_layout.specs.declared.fault.PlanFault.{PlanFault}
 use Rattle.ci_machine_steps.specs.Prelude.{NewPipeline, IsRead, given_by}
-use Rattle.ci_explain.specs.Verdicts.{Fits, FitsText, TellsUnread}
-use Rattle.ci_explain.specs.Verdicts.{status as verdict_status}
+use Rattle.ci_explain.specs.Verdicts.{Fits, FitsText, TellsUnread, status as verdict_status}
 use Rattle.ci_explain.specs.declared.check.verdict.Verdict.{Verdict}
 use Rattle.ci_plan.specs.Rules.{left_out}
 use Rattle.ci_plan.specs.Planned.{planned_jobs}

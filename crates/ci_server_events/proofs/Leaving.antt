@@ -15,8 +15,7 @@ use Rattle.ci_machine_plans.specs.Refusals.{unmade}
 use Rattle.ci_machine_plans.specs.declared.replies.Refusal.{Refusal}
 use Rattle.ci_server_lookups.specs.Prelude.{LeavesStatuses, StoreFault, IsKept, HoldsKept}
 use Rattle.ci_store.specs.Prelude.{LoadsBy}
-use Rattle.ci_server_lookups.proofs.Loading.{carries}
-use Rattle.ci_server_lookups.proofs.Loading.{if_kept}
+use Rattle.ci_server_lookups.proofs.Loading.{carries, if_kept}
 use Rattle.ci_server_events.specs.declared.planned.Beside.{Beside}
 use Rattle.ci_server_events.specs.declared.planned.Planned.{Planned}
 use Rattle.ci_server_events.specs.Planning.{PlansFor, Settles}
