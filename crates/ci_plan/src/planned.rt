@@ -46,11 +46,7 @@ fn waits_for(alloc: Global, lineup: &Lineup, job: &IncludedJob) -> Result<Texts,
 }
 
 /// What is told of a job.
-fn planned_job(
-    alloc: Global,
-    lineup: &Lineup,
-    job: &IncludedJob,
-) -> Result<PlannedJob, AllocError>
+fn planned_job(alloc: Global, lineup: &Lineup, job: &IncludedJob) -> Result<PlannedJob, AllocError>
     requires { IsPlaced lineup.now }
     ensures { IfOk result (λ p. p ≡ planned_job (stages_of lineup.now) (jobs_of lineup.now) (included_view job.now)) }
 {
