@@ -7,7 +7,6 @@ import re
 import shutil
 import sys
 import tempfile
-import time
 
 
 def load():
@@ -72,14 +71,22 @@ def check_of(crate, *words):
     return check_by([*crate.words(["--jobs", "1"], keeps=False), *words])
 
 
-def heard(lines):
-    """Returns what a check with `--progress` said, and for each function but the first the seconds by the clock from the end of the one before to its own. Before the first what is below is loaded."""
+def seconds_of(process):
+    """Returns the seconds of a processor that a process took, with its children that have ended."""
+    with open(f"/proc/{process}/stat", encoding="utf-8") as opened:
+        fields = opened.read().rpartition(")")[2].split()
+    return sum(map(int, fields[11:15])) / os.sysconf("SC_CLK_TCK")
+
+
+def heard(running):
+    """Returns what a running check with `--progress` says; for each function but the first the seconds of a processor from the end of the one before to its own; and those of the whole check.
+    Before the first function what is below is loaded."""
     said, took, last = [], {}, None
-    for line in lines:
+    for line in running.stdout:
         said.append(line)
         if found := re.match(r"checked (\S+), \d+ of ", line):
-            now = time.monotonic()
+            now = seconds_of(running.pid)
             if last is not None:
                 took[found[1]] = now - last
             last = now
-    return "".join(said), took
+    return "".join(said), took, seconds_of(running.pid)
