@@ -71,11 +71,11 @@ def check_of(crate, *words):
     return check_by([*crate.words(["--jobs", "1"], keeps=False), *words])
 
 
-def seconds_of(process):
-    """Returns the seconds of a processor that a process took, with its children that have ended."""
-    with open(f"/proc/{process}/stat", encoding="utf-8") as opened:
+def times_of(process):
+    """Returns when a process began, as the kernel counts it, and the seconds of a processor that it took, with its children that have ended."""
+    with open(f"/proc/{process}/stat", encoding="utf-8", errors="replace") as opened:
         fields = opened.read().rpartition(")")[2].split()
-    return sum(map(int, fields[11:15])) / os.sysconf("SC_CLK_TCK")
+    return fields[19], sum(map(int, fields[11:15])) / os.sysconf("SC_CLK_TCK")
 
 
 def heard(running):
@@ -85,8 +85,8 @@ def heard(running):
     for line in running.stdout:
         said.append(line)
         if found := re.match(r"checked (\S+), \d+ of ", line):
-            now = seconds_of(running.pid)
+            now = times_of(running.pid)[1]
             if last is not None:
                 took[found[1]] = now - last
             last = now
-    return "".join(said), took, seconds_of(running.pid)
+    return "".join(said), took, times_of(running.pid)[1]
