@@ -163,11 +163,11 @@ class Connections(Peers):
         came = self.world.exchange(data + b' ' * (100000 - len(data)))
         self.assertEqual(came[:32], b'HTTP/1.1 413 Payload Too Large\r\n')
 
-    def test_no_descriptor_is_left(self):
-        """Nothing is accepted then, which takes no time to speak of and counts for no connection; who waits is served once there are descriptors again."""
+    def without_descriptors(self, requests):
+        """A server of so many requests that has answered one, and then accepted two peers that say nothing and hold the last descriptors: its process and these peers."""
         self.begin(*PATH)
         self.world.stop()
-        self.world.start(requests=5)
+        self.world.start(requests=requests)
         server = self.world.server.pid
         # Once it has replied it has opened what it needs itself.
         self.assertEqual(self.world.exchange(SHOW), shown('build', 'build', 'running'))
@@ -176,6 +176,11 @@ class Connections(Peers):
         resource.prlimit(server, resource.RLIMIT_NOFILE, (taken + 2, taken + 2))
         silent = [self.sent(b'', False) for _ in range(2)]
         until(lambda: len(descriptors(server)) == taken + 2, 'the peers are not accepted')
+        return server, silent
+
+    def test_no_descriptor_is_left(self):
+        """Nothing is accepted then, which takes no time to speak of; who waits is served once there are descriptors again."""
+        server, silent = self.without_descriptors(1000)
         waiting = self.sent(SHOW)
         spent = processor_seconds(server)
         time.sleep(1)
@@ -184,7 +189,17 @@ class Connections(Peers):
             peer.close()
         self.assertEqual(received(waiting), shown('build', 'build', 'running'))
         self.assertEqual(self.world.exchange(SHOW), shown('build', 'build', 'running'))
+
+    def test_an_accept_that_fails_counts(self):
+        """Five of the eight are accepts that fail, half a second of them: then nobody is accepted any more, and it ends with those that it has."""
+        server, silent = self.without_descriptors(8)
+        waiting = self.sent(SHOW)
+        time.sleep(1.5)
+        resource.prlimit(server, resource.RLIMIT_NOFILE, (100, 100))
+        for peer in silent:
+            peer.close()
         self.assertEqual(self.world.ended(), (0, '', ''))
+        self.assertEqual(received(waiting), b'')
 
     def test_it_ends_after_so_many_connections(self):
         self.begin(*PATH)

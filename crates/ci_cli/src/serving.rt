@@ -54,10 +54,9 @@ impl<'a, 'b, 'c, S: Alter, C: Clock, R: RandomSource, E: Write> Answerer<Server<
 /// Serves so many connections of a listener of this port: of each one request, once it is whole. Only then does it get a moment and
 /// a seed, and before it is handled leases that are over by then are ended and redundant pipelines cancelled.
 ///
-/// A connection counts once it is over, however it ends. Where none can be accepted it is tried again, and counts for none. A whole
-/// request must come within `patience`, and a whole reply be taken within it again. From the first fault of the store on each
-/// request is answered M17; where the fault is to end the service no more connections are accepted then, and it ends once those that
-/// there are have been served.
+/// A connection counts once it is over, however it ends, and so does an accept that fails. A whole request must come within `patience`,
+/// and a whole reply be taken within it again. From the first fault of the store on each request is answered M17; where the fault is
+/// to end the service no more connections are accepted then, and it ends once those that there are have been served.
 ///
 /// Errors: the line that says why a request has no moment or no seed, or that nothing can be heard. Those that are left are not
 /// served.

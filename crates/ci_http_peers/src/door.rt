@@ -75,7 +75,7 @@ impl Door {
         }
     }
 
-    /// A connection was accepted, or its peer gave it up before it was.
+    /// A connection was accepted, or couldn't be.
     pub fn count(&mut self)
         ensures left { self.new.left ≡ self.old.left - 1 }
         ensures opens { self.new.opens ≡ self.old.opens }
@@ -83,21 +83,23 @@ impl Door {
         self.left = self.left.saturating_sub(1);
     }
 
-    /// No connection could be accepted now: none waits; or the call was interrupted, and is made again; or the connection was given up
-    /// by its peer, and counts. After any other failure, as for want of descriptors, the connection waits on. It is tried again
-    /// after a pause, and doesn't count until it is accepted.
+    /// No connection could be accepted now: none waits; or the call was interrupted, and is made again. Any other failure counts as a
+    /// connection. Where its peer gave it up the next one may be accepted at once; else, as for want of descriptors, after a pause.
     pub fn fail(&mut self, kind: ErrorKind, now: u64)
         ensures none_waits { kind ≡ WouldBlock → (self.new.opens ≡ None) × (self.new.left ≡ self.old.left) }
         ensures interrupted { kind ≡ Interrupted → self.new ≡ self.old }
         ensures given_up { kind ≡ ConnectionAborted → (self.new.opens ≡ self.old.opens) × (self.new.left ≡ self.old.left - 1) }
         ensures pause { kind ≢ WouldBlock → kind ≢ Interrupted → kind ≢ ConnectionAborted
-            → (self.new.opens ≡ Some (until now PAUSE_MILLIS)) × (self.new.left ≡ self.old.left) }
+            → (self.new.opens ≡ Some (until now PAUSE_MILLIS)) × (self.new.left ≡ self.old.left - 1) }
     {
         match kind {
             ErrorKind::WouldBlock => self.opens = None,
             ErrorKind::Interrupted => {}
             ErrorKind::ConnectionAborted => self.count(),
-            _ => self.opens = Some(now.saturating_add(PAUSE_MILLIS)),
+            _ => {
+                self.opens = Some(now.saturating_add(PAUSE_MILLIS));
+                self.count();
+            }
         }
     }
 }

@@ -41,7 +41,7 @@ pub enum Unserved<E> {
 pub struct Terms {
     /// How long a whole request may take to come, and a whole reply to be taken, in milliseconds.
     pub patience: u64,
-    /// How many connections are served. One that its peer gives up before it is accepted counts too.
+    /// How many connections are served. An accept that fails counts as one.
     pub connections: u32,
 }
 

@@ -188,7 +188,7 @@ fn what_comes_after_the_reply(rt: HostRuntime) -> Result<(), Fail> {
 /// A door after each kind of failure: when the next connection is to be accepted, and how many are left.
 #[test]
 fn accepts_that_fail(rt: HostRuntime) -> Result<(), Fail> {
-    let mut door = Door::new(2);
+    let mut door = Door::new(4);
     assert!(rt; !door.is_open(7) && door.opens_at() == None);
     door.knock(7);
     assert!(rt; door.is_open(7) && door.opens_at() == Some(7));
