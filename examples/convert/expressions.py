@@ -7,6 +7,18 @@ TOKEN = re.compile(
     r"""\s*(&&|\|\||==|!=|=~|!~|[()]|\$[A-Za-z_][A-Za-z0-9_]*|"[^"]*"|'[^']*'|null\b|/(?:[^/\\]|\\.)*/[ismU]*)""", re.S
 )
 PATTERN = re.compile(r"/(.*)/([ismU]*)", re.S)
+# The patterns that say the same to Python as to the server.
+ALIKE = re.compile(
+    r"""(?:\(\?[is]+\))?(?:
+    [^\\\[\](){}*+?] | \\[dDwWsSbBAnrt] | \\[^\w\s<>] | \((?:\?:|(?!\?)) | \)
+    | (?:[*+?]|\{[1-9][0-9]*(?:,[1-9][0-9]*)?\})\??(?![*+?{])
+    | \[\^?(?:[^\\\[\]&~-]|\\[dDwWsSnrt]|\\[^\w\s<>]|-(?![-~&]))+\]
+    )*""", re.X
+)
+
+
+class Unsaid(Exception):
+    """An expression can't be said with the values that it is to have: with the cause."""
 
 
 def tokens_of(source: str) -> list[str] | None:
@@ -183,8 +195,7 @@ def comparison(parts: list[str], values: dict[str, str | None]):
         return bool(left)
     sign, right = parts[1:]
     if sign in ("=~", "!~"):
-        source, flags = PATTERN.fullmatch(right).groups()
-        return bool(re.search(source, left or "", re.I if flags else 0)) == (sign == "=~")
+        return found_in(right, left or "") == (sign == "=~")
     if right[0] == "$" and right[1:] not in values:
         return ("is", [right, sign, literal(left)])
     if parts[0][1:] not in values:
@@ -193,5 +204,18 @@ def comparison(parts: list[str], values: dict[str, str | None]):
     return (left == other) == (sign == "==")
 
 
+def found_in(pattern: str, value: str) -> bool:
+    """Whether a pattern is found in a value, as the server would look for it."""
+    source, flags = PATTERN.fullmatch(pattern).groups()
+    try:
+        if ALIKE.fullmatch(source) and not ("$" in source and value.endswith("\n")):
+            return bool(re.search(source, value, re.I if flags else 0))
+    except re.error:
+        pass
+    raise Unsaid(f"`{pattern}` can't be looked for in a value of the file")
+
+
 def literal(value: str | None) -> str:
+    if value is not None and '"' in value and "'" in value:
+        raise Unsaid(f"`{value}` can't stand in an expression, for it has quotes of both kinds")
     return "null" if value is None else f"'{value}'" if '"' in value else f'"{value}"'

@@ -227,6 +227,7 @@ class Refusals(unittest.TestCase):
     """What is refused, with its line."""
 
     JOB = "build: {script: make}\n"
+    GATE = "variables: {A: \"'\\\"t\\n\"}\nworkflow: {rules: [{if: '$A %s'}]}\nbuild: {script: make, variables: {A: b}}"
     ROWS = (
         ("build: {script: make, services: [[a, {alias: b}]]}", 1, "services: a service is neither a name nor a map with one"),
         ("build: {script: make, cache: x}", 1, "cache: it is no map"),
@@ -257,6 +258,11 @@ class Refusals(unittest.TestCase):
         ("build:\n  script: make\n  parallel: {matrix: []}", 3, "parallel: the matrix has no rows"),
         (".a: {script: !reference [[b]]}\n" + JOB, 1, "!reference: it is no list of keys"),
         ("variables:\n  A: [b]\n" + JOB, 2, "the value of the variable `A` is no text"),
+        (GATE % "=~ /\\p{Lu}/", 2, "workflow: `/\\p{Lu}/` can't be looked for in a value of the file"),
+        (GATE % "=~ /[[:alpha:]]/", 2, "workflow: `/[[:alpha:]]/` can't be looked for in a value of the file"),
+        (GATE % "=~ /(/", 2, "workflow: `/(/` can't be looked for in a value of the file"),
+        (GATE % "!~ /t$/", 2, "workflow: `/t$/` can't be looked for in a value of the file"),
+        (GATE % "== $OTHER", 2, "workflow: `'\"t\n` can't stand in an expression, for it has quotes of both kinds"),
     )
 
     @unittest.mock.patch("convert.reading.MOST_NODES", 1_000)

@@ -4,7 +4,7 @@ from __future__ import annotations
 import dataclasses
 
 from .conditions import condition
-from .expressions import alternatives, formula, joined, negated, variables_in, with_values, words_of_formula
+from .expressions import Unsaid, alternatives, formula, joined, negated, variables_in, with_values, words_of_formula
 from .notes import Notes
 from .tree import Map, Place, Refused, Text, flat, is_null
 from .variables import Variables
@@ -38,6 +38,7 @@ class Workflow:
         for rule in rules:
             if not isinstance(rule, Map):
                 raise Refused(rule.place, "a rule is no map")
+            rule = rule.without(*[key for key, value in rule.items() if is_null(value)])
             for key in rule.without("if", "when", "variables", "changes", "exists"):
                 self.notes.add(rule.places[key], f"workflow: `{key}` is dropped")
             kept, said = condition(self.notes, "workflow", rule, self.globals)
@@ -54,7 +55,7 @@ class Workflow:
             for key in hidden:
                 cause = "for the job has its own: what a project or a request sets changes nothing of it"
                 self.notes.add(case.place, f"workflow: `{key}` is put in as the top level has it, {cause}")
-            said = with_values(case.said, {key: self.globals.get(key) for key in hidden}) if hidden else case.said
+            said = put_into(case.said, {key: self.globals.get(key) for key in hidden}, case.place) if hidden else case.said
             if said is not False:
                 made.append(dataclasses.replace(case, said=None if said is True else said))
             if said in (None, True):
@@ -106,7 +107,7 @@ class Workflow:
             for key, it in known.items():
                 cause = "what a project or a request sets changes nothing of it"
                 self.notes.add(it.place, f"workflow: `{key}` is put into rules as the workflow has it: {cause}")
-            rest = with_values(asked, known)
+            rest = put_into(asked, known, case.place)
             asks = [it for it in (case.said, *before, None if rest is True else rest) if it is not None]
             if rest is not False:
                 head = {"if": words_of_formula(joined("&&", asks))} if asks else {"when": when}
@@ -114,6 +115,13 @@ class Workflow:
             if case.said is not None:
                 before.append(negated(case.said))
         return made
+
+
+def put_into(said: tuple, values: dict[str, Text | None], place: Place):
+    try:
+        return with_values(said, values)
+    except Unsaid as fault:
+        raise Refused(place, f"workflow: {fault}") from None
 
 
 def given(values: dict[str, Text], rule: dict, own: dict[str, Text]) -> dict[str, Text]:
