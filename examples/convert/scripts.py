@@ -61,7 +61,7 @@ class Scripts:
                 raise Refused(it.place, "a line of a script is a map: put the line in quotes")
             if not it.strip():
                 continue
-            clean = re.sub(r"\ufeff|\r(?=\n)", "", it)
+            clean = re.sub(r"\ufeff|\r(?=\n|\Z)", "", it)
             if clean != it:
                 self.notes.add(it.place, "script: marks of byte order and carriage returns at line ends are gone")
             blank = re.sub(r"(?m)^ +$", "", clean)
@@ -89,14 +89,14 @@ def whole(lines: list[str]) -> list[str]:
 
 
 @functools.cache
-def bash() -> str | None:
-    return shutil.which("bash")
+def shell() -> str | None:
+    return shutil.which("bash") or shutil.which("sh")
 
 
 @functools.cache
 def is_whole(lines: tuple[str, ...]) -> bool:
     """Whether a shell finds no fault in what these lines say; it runs nothing."""
-    if not bash():
+    if not shell():
         return True
-    said = subprocess.run([bash(), "-n", "-c", block(list(lines))], stdin=subprocess.DEVNULL, capture_output=True, check=False)
+    said = subprocess.run([shell(), "-n", "-c", block(list(lines))], stdin=subprocess.DEVNULL, capture_output=True, check=False)
     return said.returncode == 0 and not re.search(r"(&&|\|\||\||\\)\s*$", lines[-1])

@@ -29,6 +29,7 @@ from convert.keywords import LEFT_OUT  # noqa: E402
 from convert.linking import Linker  # noqa: E402
 from convert.notes import Notes  # noqa: E402
 from convert.reading import Reader  # noqa: E402
+from convert.scripts import is_whole, shell  # noqa: E402
 from convert.tree import Refused, Unread  # noqa: E402
 from convert.writing import written  # noqa: E402
 
@@ -146,6 +147,21 @@ class AfterScripts(unittest.TestCase):
         self.assertEqual(job.returncode, 143)
 
 
+class Parts(unittest.TestCase):
+    """Commands that go over several items of a script become one part."""
+
+    def test_they_do_where_there_is_no_bash(self) -> None:
+        def which(name: str) -> str | None:
+            return None if name == "bash" else "/bin/sh"
+
+        self.addCleanup(shell.cache_clear)
+        shell.cache_clear()
+        is_whole.cache_clear()
+        with unittest.mock.patch("shutil.which", which):
+            made = converted("job: {script: ['if true; then', echo one, fi, echo two]}")
+        self.assertEqual(made["job"]["script"], ["if true; then\necho one\nfi\n", "echo two"])
+
+
 class Workflows(unittest.TestCase):
     """The rules of a job, as they are written, decide as those of the workflow and of the job do one after the other."""
 
@@ -258,6 +274,8 @@ class Refusals(unittest.TestCase):
         ("build:\n  script: make\n  parallel: {matrix: []}", 3, "parallel: the matrix has no rows"),
         (".a: {script: !reference [[b]]}\n" + JOB, 1, "!reference: it is no list of keys"),
         ("variables:\n  A: [b]\n" + JOB, 2, "the value of the variable `A` is no text"),
+        (JOB + 'variables: {A: "b\\ufeff"}', 2, "`b\ufeff` can't be written: a control character or a mark of byte order can't stand in it"),
+        (JOB + 'variables: {A: " b\\n\\e"}', 2, "` b\n\x1b` can't be written: a control character or a mark of byte order can't stand in it"),
         (GATE % "=~ /\\p{Lu}/", 2, "workflow: `/\\p{Lu}/` can't be looked for in a value of the file"),
         (GATE % "=~ /[[:alpha:]]/", 2, "workflow: `/[[:alpha:]]/` can't be looked for in a value of the file"),
         (GATE % "=~ /(/", 2, "workflow: `/(/` can't be looked for in a value of the file"),
@@ -270,7 +288,7 @@ class Refusals(unittest.TestCase):
     def test_each_row_is_refused(self) -> None:
         for content, line, sentence in self.ROWS:
             with self.subTest(sentence), self.assertRaises(Refused) as said:
-                converted(content)
+                written(converted(content))
             self.assertEqual(said.exception.args, (("ci.yml", line), sentence))
 
     def test_over_150_files_are_refused(self) -> None:

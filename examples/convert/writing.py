@@ -3,6 +3,8 @@ from __future__ import annotations
 
 import re
 
+from .tree import Refused
+
 MOST_BYTES = 65_536
 NUMBER_LIKE = re.compile(
     r"[-+]?(\.[0-9]+|[0-9][0-9_,:.]*)([eE][-+]?[0-9]+)?|[-+]?0[xo][0-9a-fA-F]+|[-+]?\.(inf|nan)|[0-9]{4}-[0-9][0-9]?-.*", re.I
@@ -23,7 +25,7 @@ def header(value: str) -> str | None:
     """The header of the literal block that a text is, where it can be one."""
     if not re.search(r"[\x00-\x08\x0a-\x1f\x7f]", value) or not value.strip("\n "):
         return None
-    if value.lstrip("\n")[0] == " " or re.search(r"(?m)^ +$", value) or re.search(r"[\r\ufeff]", value):
+    if value.lstrip("\n")[0] == " " or re.search(r"(?m)^ +$", value) or re.search(r"\r(\n|\Z)|\ufeff", value):
         return None
     body = value.rstrip("\n")
     return {0: "|-", 1: "|"}.get(len(value) - len(body), "|+")
@@ -39,8 +41,9 @@ def scalar(value) -> str:
         return value
     if not re.search(r"[^ -~\u00a0-\ufefe\uff00-\U0010ffff]|[\u2028\u2029]", value):
         return "'" + value.replace("'", "''") + "'"
-    kept = re.sub(r"[\x00-\x08\x0b-\x1f\x7f\ufeff]", "", value)
-    return '"' + kept.replace("\\", "\\\\").replace('"', '\\"').replace("\n", "\\n").replace("\t", "\\t") + '"'
+    if re.search(r"[\x00-\x08\x0b-\x1f\x7f\ufeff]", value):
+        raise Refused(getattr(value, "place", None), f"`{value[:40]}` can't be written: a control character or a mark of byte order can't stand in it")
+    return '"' + value.replace("\\", "\\\\").replace('"', '\\"').replace("\n", "\\n").replace("\t", "\\t") + '"'
 
 
 def entry(head: str, value, indent: int) -> list[str]:
@@ -49,8 +52,8 @@ def entry(head: str, value, indent: int) -> list[str]:
     if isinstance(value, dict):
         return [head.rstrip()] + map_lines(value, indent + 2)
     if isinstance(value, list):
-        flow = ", ".join(scalar(it) for it in value if not isinstance(it, dict))
         short = all(not isinstance(it, dict) and (isinstance(it, int) or is_plain(it, True)) for it in value)
+        flow = ", ".join(map(scalar, value)) if short else ""
         if short and len(flow) < 100 and (not head.strip().startswith("script:") or not value):
             return [f"{head}[{flow}]"]
         return [head.rstrip()] + [line for it in value for line in item_lines(it, indent + 2)]
@@ -76,7 +79,9 @@ def map_lines(value: dict, indent: int) -> list[str]:
 
 
 def written(made: dict) -> str:
-    return "" if not made else "\n\n".join("\n".join(entry(scalar(key) + ": ", value, 0)) for key, value in made.items()) + "\n"
+    """The whole file; an empty line at the end of a block is part of its text, and none is put behind it."""
+    parts = ["\n".join(entry(scalar(key) + ": ", value, 0)) + "\n" for key, value in made.items()]
+    return "".join(it if it.endswith("\n\n") else it + "\n" for it in parts[:-1]) + "".join(parts[-1:])
 
 
 def over_limits(made: dict, content: str) -> list[str]:
