@@ -4,7 +4,7 @@ from __future__ import annotations
 import re
 
 UNITS = {"s": 1, "sec": 1, "second": 1, "m": 60, "min": 60, "minute": 60, "h": 3600, "hr": 3600, "hour": 3600, "d": 86400, "day": 86400}
-UNITS |= {"w": 604800, "wk": 604800, "week": 604800, "mo": 2592000, "month": 2592000, "y": 31536000, "year": 31536000}
+UNITS |= {"w": 604800, "wk": 604800, "week": 604800, "mo": 2592000, "month": 2592000, "y": 31557600, "yr": 31557600, "year": 31557600}
 
 
 def seconds_of(source: str) -> int | None:

@@ -1,6 +1,8 @@
 """Variables that tell the runner of a job's image, services, artifacts and cache, and of the jobs whose artifacts it gets."""
 from __future__ import annotations
 
+import re
+
 from .durations import seconds_of
 from .notes import Notes
 from .tree import Map, Place, Refused, Text, boolean, flat, text, words_of
@@ -47,6 +49,9 @@ class ForRunner:
                 alias, it = it.get("alias", ""), it.get("name", "")
             if not isinstance(it, Text) or not isinstance(alias, str):
                 raise Refused(getattr(given, "place", ("", 0)), "services: a service is neither a name nor a map with one")
+            alias, *others = re.split(r"[\s,]+", alias.strip(" ,"))
+            if others:
+                self.notes.add(it.place, f"services: of several aliases `{alias}` alone is kept")
             lines.append(f"{it} {alias}".strip())
         return {"CI_JOB_SERVICES": "\n".join(lines)}
 

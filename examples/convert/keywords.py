@@ -35,8 +35,9 @@ PREDEFINED = {
 SOURCES = {
     "pushes": "push", "web": "web", "schedules": "schedule", "api": "api", "triggers": "trigger",
     "merge_requests": "merge_request_event", "external_pull_requests": "external_pull_request_event", "external": "external",
-    "chat": "chat", "pipelines": "pipeline",
+    "chat": "chat", "pipelines": "pipeline", "parent_pipelines": "parent_pipeline",
 }
+SOURCES |= {it.removesuffix("_event"): it for it in SOURCES.values()}  # GitLab takes the word for one as well
 SOURCES_ELSEWHERE = set(SOURCES.values()) - {"push", "web", "schedule", "api", "trigger"} | {"parent_pipeline", "ondemand_dast_scan"}
 GIT = re.compile(r"GIT_(STRATEGY|DEPTH|CHECKOUT|CLEAN_FLAGS|CLONE_PATH|CLONE_EXTRA_FLAGS|FETCH_EXTRA_FLAGS|SUBMODULE_[A-Z_]+)|GET_SOURCES_ATTEMPTS")
 GIT_READ = ("GIT_STRATEGY", "GIT_SUBMODULE_STRATEGY")  # by ciserver-runner

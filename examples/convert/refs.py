@@ -7,7 +7,7 @@ from .conditions import tell_patterns, tell_sources
 from .expressions import PATTERN, expression, pattern_of
 from .keywords import SOURCES
 from .notes import Notes
-from .tree import Map, Refused, Text, flat
+from .tree import Map, Refused, Text, flat, is_null
 
 OF_PROJECT = re.compile(r"(/.*/[ismU]*|[^/@][^@]*)@(.*)", re.S)
 
@@ -42,7 +42,7 @@ class Refs:
                 cause = ": there are no files to look at" if key == "changes" else ""
                 self.notes.add(given.places[key], f"{keyword}: `{key}` is dropped{cause}")
         return [[it for it in map(lambda part: self.said(keyword, key, part), flat(parts[key])) if it]
-                for key in ("refs", "variables") if flat(parts.get(key))]
+                for key in ("refs", "variables") if key in parts and not is_null(parts[key])]
 
     def said(self, keyword: str, key: str, given) -> str | None:
         """The expression of one entry; None where it never holds."""

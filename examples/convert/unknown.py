@@ -25,10 +25,12 @@ def tell_unknown(config: Map, made: dict, sources: dict[str, Map], names: dict[s
     tell("rules", config.get("workflow"), common)
     for name, job in sources.items():
         notes.job = name
+        mine = made[names[name][0]]
+        own = {key for it in (mine, *mine.get("rules", [])) for key in it.get("variables", {})}
         for key in ("variables", "rules", "only", "except", "before_script", "script", "after_script",
                     "image", "services", "cache", "artifacts"):
             given = {"CI_JOB_STATUS"} if key == "after_script" else set()
-            tell(key, job.get(key), given | common | made[names[name][0]].get("variables", {}).keys())
+            tell(key, job.get(key), given | common | own)
 
 
 def texts(value) -> list[Text]:
