@@ -3,23 +3,26 @@ from __future__ import annotations
 
 import re
 
-from .tree import List, Map, Place, Reference, Refused, Text, is_null, text
+from .notes import Notes
+from .tree import List, Map, Place, Reference, Refused, Text, handed_out, text
+from .variables import tell_number
 
 WANTED = re.compile(r"\$\[\[\s*(.*?)\s*\]\]")
 
 
-def values_of(header: Map, given: Map | None) -> dict:
+def values_of(header: Map, given: Map | None, notes: Notes) -> dict:
     """The value of each input: that which the include gives, or its default."""
     spec = header["spec"]
     asked = spec.get("inputs") if isinstance(spec, Map) else None
     found = {}
     for name, said in asked.items() if isinstance(asked, Map) else ():
-        if given is not None and name in given:
+        if isinstance(given, Map) and name in given:
             found[name] = given[name]
         elif isinstance(said, Map) and "default" in said:
             found[name] = said["default"]
         else:
             raise Refused(asked.places[name], f"the input `{name}` has no value")
+        tell_number(notes, "inputs", found[name])
     return found
 
 
@@ -53,4 +56,4 @@ def in_text(asked: str, place: Place, inputs: dict) -> str:
     found = one(asked, place, inputs)
     if not isinstance(found, Text):
         raise Refused(place, f"`$[[ {asked} ]]` is no text")
-    return "" if is_null(found) else str(found)
+    return handed_out(found)

@@ -13,9 +13,9 @@ from .notes import Notes
 from .repeated import MOST_VARIABLES, Repeated
 from .rules import Rules
 from .scripts import Scripts
-from .tree import List, Map, Place, Refused, Text, boolean, is_null, number, rows_of, text, words_of
+from .tree import List, Map, Place, Refused, Text, boolean, flat, is_null, number, rows_of, text, words_of
 from .unknown import tell_unknown
-from .variables import NAMED, Putting, Variables, names_in
+from .variables import IS_NAME, NAMED, Putting, Variables, names_in, tell_number
 from .workflow import Workflow
 
 MOST_JOBS = 1_000
@@ -108,14 +108,15 @@ class Converter:
         place = self.config.places[name]
         if not isinstance(source, Map):
             raise Refused(place, "it is no map")
-        if re.search(r"[\x00-\x1f\x7f]", name) or not 1 <= len(name.encode(errors="replace")) <= 255:
-            raise Refused(place, f"`{name[:40]}` is no name: that has 1 to 255 bytes, and no control characters")
         job = self.inherited(source)
         for key in job:
             if key not in TAKEN:
                 self.tell_left_out(key, job.places[key])
         self.names[name] = []
         jobs = self.parallel("pages-job" if name == "pages" else name, job)
+        for each in (name, *jobs):
+            if re.search(r"[\x00-\x1f\x7f]", each) or not 1 <= len(each.encode()) <= 255:
+                raise Refused(place, f"`{each[:40]}` is no name: that has 1 to 255 bytes, and no control characters")
         wanted = {each: extra for each, extra in jobs.items() if not self.is_unwanted(each)}
         cause = None
         if self.is_unwanted(name) or not wanted:
@@ -146,7 +147,7 @@ class Converter:
             self.made[each] = self.made_of(job, extra)
 
     def inherited(self, source: Map) -> Map:
-        """A job with the defaults that it inherits, and without what is null."""
+        """A job with the defaults that it inherits, and without what is null: to GitLab that isn't there."""
         inherit = source.get("inherit")
         wanted = inherit.get("default") if isinstance(inherit, Map) else None
         if isinstance(inherit, Map) and "variables" in inherit:
@@ -155,7 +156,7 @@ class Converter:
         for key, value in self.defaults.items():
             if boolean(wanted) is not False and (not isinstance(wanted, List) or key in wanted):
                 job.put(key, value, self.defaults.places[key])
-        job.join(source)
+        job.join(source.without(*[key for key, value in source.items() if is_null(value)]))
         return job.without(*[key for key, value in job.items() if is_null(value)])
 
     def parallel(self, name: str, job: Map) -> dict[str, dict[str, Text]]:
@@ -168,10 +169,19 @@ class Converter:
         if count is not None and 1 <= count <= 200:
             rows = {f"{name} {i}/{count}": {"CI_NODE_INDEX": str(i), "CI_NODE_TOTAL": str(count)} for i in range(1, count + 1)}
         elif isinstance(given, Map) and "matrix" in given:
+            self.look_at_matrix(given["matrix"])
             rows = {f"{name}: [{', '.join(row.values())}]": row for row in rows_of(given["matrix"], place)}
         else:
             raise Refused(place, "parallel: it is neither a number from 1 to 200 nor a matrix")
         return {each: {key: text(it, place, raw=not names_in(it)) for key, it in row.items()} for each, row in rows.items()}
+
+    def look_at_matrix(self, matrix) -> None:
+        for part in flat(matrix):
+            for key, value in part.items() if isinstance(part, Map) else ():
+                if not IS_NAME.fullmatch(key):
+                    raise Refused(part.places[key], f"parallel: `{key}` is no name of a variable")
+                for it in flat(value):
+                    tell_number(self.notes, "parallel", it)
 
     def made_of(self, job: Map, extra: dict[str, Text]) -> dict:
         made: dict = {}

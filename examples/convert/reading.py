@@ -1,7 +1,6 @@
 """Reading: the tree of a file, with its includes."""
 from __future__ import annotations
 
-import glob
 import os
 import re
 import sys
@@ -10,17 +9,53 @@ import yaml
 
 from .inputs import filled, values_of
 from .notes import Notes
-from .tree import MOST_NODES, List, Map, Place, Reference, Refused, Text, Unread, flat, merged, text
+from .tree import MOST_NODES, List, Map, Place, Reference, Refused, Text, Unread, flat, is_null, merged, text
 
 MOST_FILES = 150
 
 
 class Loader(yaml.SafeLoader):
+    """Reads YAML as GitLab's reader does, where that of the module differs."""
+
     def compose_node(self, parent, index):
         """An anchor may be defined again: an alias names the last one before it."""
         anchor = None if self.check_event(yaml.AliasEvent) else self.peek_event().anchor
         self.anchors.pop(anchor, None)
         return super().compose_node(parent, index)
+
+    def compose_scalar_node(self, anchor):
+        node = super().compose_scalar_node(anchor)
+        if re.search("[\ud800-\udfff]", node.value):
+            raise yaml.MarkedYAMLError(problem="an escape is no character", problem_mark=node.start_mark)
+        return node
+
+    def scan_to_next_token(self) -> None:
+        """Tabs may stand before what can't be a key of a map."""
+        super().scan_to_next_token()
+        while self.peek() == "\t" and (self.flow_level or not self.allow_simple_key):
+            self.forward()
+            super().scan_to_next_token()
+
+    def scan_plain_spaces(self, indent, start_mark):
+        """Tabs may stand in a plain text, and behind it."""
+        count = 0
+        while self.peek(count) in " \t":
+            count += 1
+        if "\t" not in self.prefix(count):
+            return super().scan_plain_spaces(indent, start_mark)
+        blanks = self.prefix(count)
+        self.forward(count)
+        return super().scan_plain_spaces(indent, start_mark) if self.peek() in "\r\n\x85\u2028\u2029" else [blanks]
+
+    def nodes(self) -> list[yaml.Node]:
+        """Those of all documents."""
+        found = []
+        try:
+            while self.check_node():
+                found.append(self.get_node())
+        except (ValueError, OverflowError):
+            raise yaml.MarkedYAMLError(problem="an escape is no character", problem_mark=self.get_mark()) from None
+        return found
 
 
 class Reader:
@@ -34,7 +69,7 @@ class Reader:
     def load(self, name: str, content: str, given: Map | None = None) -> Map:
         """The map that a file's text is, with the inputs that are given."""
         try:
-            nodes = list(yaml.compose_all(content, Loader=Loader))
+            nodes = Loader(content).nodes()
         except yaml.MarkedYAMLError as fault:
             mark = fault.problem_mark or fault.context_mark
             raise Refused((name, mark.line + 1 if mark else 1), f"this is no YAML: {fault.problem or fault.context}") from None
@@ -44,7 +79,7 @@ class Reader:
         if not made or not isinstance(made[-1], Map):
             raise Refused((name, 1), "the file is no map of keywords and jobs")
         if len(made) == 2 and isinstance(made[0], Map) and list(made[0]) == ["spec"]:
-            return filled(made[1], values_of(made[0], given))
+            return filled(made[1], values_of(made[0], given, self.notes))
         if len(made) > 1:
             self.notes.add(made[0].place, "what stands before the last `---` is dropped")
         return made[-1]
@@ -122,14 +157,30 @@ class Reader:
                 return []
             for key in item.without("local", "inputs"):
                 self.notes.add(item.places[key], f"include: `{key}` is dropped: the file is always included")
+            if not isinstance(item.get("inputs", item), Map) and not is_null(item["inputs"]):
+                raise Refused(item.places["inputs"], "include: `inputs` is no map")
             item = item["local"]
         if re.match(r"https?://", item):
             self.lacks = True
             self.notes.add(place, "include: dropped: nothing is fetched; save the file and include it as local")
             return []
-        pattern = os.path.join(self.root, item.lstrip("/"))
-        paths = sorted(glob.glob(pattern, recursive=True)) if "*" in item else [pattern]
+        if "\0" in item:
+            raise Refused(place, "include: it is no name of a file")
+        paths = self.matching(item.lstrip("/")) if "*" in item else [os.path.join(self.root, item.lstrip("/"))]
+        if not paths:
+            self.notes.add(place, f"include: no file here is of the pattern `{item}`")
         for path in paths:
             if os.path.commonpath([os.path.realpath(path), self.root]) != self.root:
                 raise Refused(place, f"`{item}` is outside of the project")
         return paths
+
+    def matching(self, pattern: str) -> list[str]:
+        """The paths of the files of a pattern, in their order: `*` is of one folder, and `**` of those below it as well."""
+        parts = {"**": ".*", "*": "[^/]*"}
+        wanted = re.compile("".join(parts.get(it) or re.escape(it) for it in re.split(r"(\*\*|\*)", pattern)), re.S)
+        top = os.path.join(self.root, os.path.dirname(pattern[: pattern.index("*")]))
+        found = []
+        for folder, folders, names in os.walk(top):
+            folders[:] = [it for it in folders if it != ".git"]
+            found += [path for path in (os.path.join(folder, it) for it in names) if wanted.fullmatch(os.path.relpath(path, self.root))]
+        return sorted(found)

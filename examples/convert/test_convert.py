@@ -274,6 +274,14 @@ class Refusals(unittest.TestCase):
         ("build:\n  script: make\n  parallel: {matrix: []}", 3, "parallel: the matrix has no rows"),
         (".a: {script: !reference [[b]]}\n" + JOB, 1, "!reference: it is no list of keys"),
         ("variables:\n  A: [b]\n" + JOB, 2, "the value of the variable `A` is no text"),
+        (JOB + 'test: {script: "\\ud83d"}', 2, "this is no YAML: an escape is no character"),
+        (JOB + 'test: {script: "\\U00110000"}', 2, "this is no YAML: an escape is no character"),
+        (JOB + 'test: {script: "\\UFFFFFFFF"}', 2, "this is no YAML: an escape is no character"),
+        ("test: {script: make, parallel: {matrix: [{A: [b, " + "c" * 250 + "]}]}}", 1,
+         "`test: [" + "c" * 33 + "` is no name: that has 1 to 255 bytes, and no control characters"),
+        ('test: {script: make, parallel: {matrix: [{A: ["b\\nc"]}]}}', 1,
+         "`test: [b\nc]` is no name: that has 1 to 255 bytes, and no control characters"),
+        ("test: {script: make, parallel: {matrix: [{A: b,\n  A-B: c}]}}", 2, "parallel: `A-B` is no name of a variable"),
         (JOB + 'variables: {A: "b\\ufeff"}', 2, "`b\ufeff` can't be written: a control character or a mark of byte order can't stand in it"),
         (JOB + 'variables: {A: " b\\n\\e"}', 2, "` b\n\x1b` can't be written: a control character or a mark of byte order can't stand in it"),
         (GATE % "=~ /\\p{Lu}/", 2, "workflow: `/\\p{Lu}/` can't be looked for in a value of the file"),
@@ -282,6 +290,10 @@ class Refusals(unittest.TestCase):
         (GATE % "!~ /t$/", 2, "workflow: `/t$/` can't be looked for in a value of the file"),
         (GATE % "== $OTHER", 2, "workflow: `'\"t\n` can't stand in an expression, for it has quotes of both kinds"),
     )
+    INCLUDES = (
+        ("include:\n  - local: a.yml\n    inputs: b", 3, "include: `inputs` is no map"),
+        ('include: "a\\0b"', 1, "include: it is no name of a file"),
+    )
 
     @unittest.mock.patch("convert.reading.MOST_NODES", 1_000)
     @unittest.mock.patch("convert.linking.MOST_NODES", 1_000)
@@ -289,6 +301,13 @@ class Refusals(unittest.TestCase):
         for content, line, sentence in self.ROWS:
             with self.subTest(sentence), self.assertRaises(Refused) as said:
                 written(converted(content))
+            self.assertEqual(said.exception.args, (("ci.yml", line), sentence))
+
+    def test_each_include_is_refused(self) -> None:
+        for content, line, sentence in self.INCLUDES:
+            reader = Reader(".", Notes())
+            with self.subTest(sentence), self.assertRaises(Refused) as said:
+                reader.with_includes(reader.load("ci.yml", content))
             self.assertEqual(said.exception.args, (("ci.yml", line), sentence))
 
     def test_over_150_files_are_refused(self) -> None:
@@ -318,6 +337,7 @@ class Sentences(unittest.TestCase):
         try:
             self.convert_all_cases()
             Refusals("test_each_row_is_refused").debug()
+            Refusals("test_each_include_is_refused").debug()
             Refusals("test_over_150_files_are_refused").debug()
         finally:
             sys.settrace(None)

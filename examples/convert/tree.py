@@ -94,6 +94,14 @@ def number(value) -> int | None:
     return None
 
 
+def handed_out(value: Text) -> str:
+    """The text that GitLab hands out for a scalar; of a number, the one that is written."""
+    if is_null(value):
+        return ""
+    truth = boolean(value)
+    return str(value) if truth is None else "true" if truth else "false"
+
+
 def flat(value) -> list:
     """The values of a list and of the lists in it; a single value is a list of one."""
     if value is None or is_null(value):
@@ -103,13 +111,18 @@ def flat(value) -> list:
     return [it for part in value for it in (flat(part) if isinstance(part, list) else [part])]
 
 
-def words_of(value, what: str) -> list[str]:
-    """The texts of a list, each once."""
+def texts_of(value, what: str) -> list[Text]:
+    """The texts of a list."""
     found = flat(value)
     for it in found:
         if not isinstance(it, Text):
             raise Refused(it.place, f"{what}: a map stands where a text is due")
-    return list(dict.fromkeys(map(str, found)))
+    return found
+
+
+def words_of(value, what: str) -> list[str]:
+    """The texts of a list, each once."""
+    return list(dict.fromkeys(map(str, texts_of(value, what))))
 
 
 def rows_of(matrix, place: Place) -> list[dict[str, str]]:
@@ -118,13 +131,8 @@ def rows_of(matrix, place: Place) -> list[dict[str, str]]:
     for part in flat(matrix):
         if not isinstance(part, Map):
             raise Refused(place, "parallel: the matrix is no list of maps")
-        values = [words_of(it, "parallel") for it in part.values()]
+        values = [dict.fromkeys(map(handed_out, texts_of(it, "parallel"))) for it in part.values()]
         rows += itertools.islice((dict(zip(part, it)) for it in itertools.product(*values)), 201)
     if not 1 <= len(rows) <= 200:
         raise Refused(place, f"parallel: the matrix has {'over 200' if rows else 'no'} rows")
     return rows
-
-
-def shown(line: str) -> str:
-    """A line for a terminal: what it may take for a command is replaced."""
-    return "".join(it if it.isprintable() else "\ufffd" for it in line)

@@ -5,13 +5,13 @@ import re
 
 from .keywords import GIT, GIT_READ
 from .notes import Notes
-from .tree import Map, Place, Refused, Text, boolean, is_null, text
+from .tree import Map, Place, Refused, Text, boolean, handed_out, text
 
 NAMED = re.compile(r"\$\$|\$\{([A-Za-z_][A-Za-z0-9_]*)\}|\$([A-Za-z_][A-Za-z0-9_]*)")
 # What YAML 1.1 takes for a number, but for those that are handed out as they are written.
 NUMBER = re.compile(
-    r"[-+]?[0-9][0-9_,]*\.[0-9_]*([eE][-+]?[0-9]+)?|[-+]?0[0-9]+|[-+]?0[xob][0-9a-fA-F_]+|\+[0-9]+|[-+]?[0-9]+[_,][0-9_,]*"
-    r"|[-+]?[0-9][0-9_]*(:[0-5]?[0-9])+(\.[0-9_]*)?"
+    r"[-+]?([0-9][0-9_,]*\.[0-9_]*|\.[0-9]+)([eE][-+]?[0-9]+)?|[-+]?0[0-9]+|[-+]?0[xb][0-9a-fA-F_]+|\+[0-9]+|-0|[-+]?[0-9]+[_,][0-9_,]*"
+    r"|[-+]?[0-9][0-9_]*(:[0-5]?[0-9])+(\.[0-9_]*)?|[-+]?\.(inf|Inf|INF)|\.(nan|NaN|NAN)"
 )
 IS_NAME = re.compile(r"[A-Za-z_][A-Za-z0-9_]{0,254}")
 
@@ -36,7 +36,8 @@ class Variables:
                 raise Refused(place, f"the value of the variable `{key}` is no text")
             else:
                 self.tell_git(key, place)
-                made = self.handed_out(value, place)
+                tell_number(self.notes, "variables", value)
+                made = handed_out(value)
                 values[key] = text(made if raw or names_in(made) else made.replace("$$", "$"), place, raw=raw or not names_in(made))
         return values
 
@@ -46,16 +47,10 @@ class Variables:
         elif GIT.fullmatch(key):
             self.notes.add(place, f"variables: no runner here looks at `{key}`")
 
-    def handed_out(self, value: Text, place: Place) -> str:
-        """The text that GitLab hands out for a scalar; of a number, the one that is written."""
-        if is_null(value):
-            return ""
-        truth = boolean(value)
-        if truth is not None:
-            return "true" if truth else "false"
-        if value.plain and NUMBER.fullmatch(value):
-            self.notes.add(place, f"variables: `{value}` is a number to GitLab, which may hand out another text for it")
-        return str(value)
+
+def tell_number(notes: Notes, keyword: str, value) -> None:
+    if isinstance(value, Text) and value.plain and NUMBER.fullmatch(value):
+        notes.add(value.place, f"{keyword}: `{value}` is a number to GitLab, which may hand out another text for it")
 
 
 def names_in(value: str) -> list[str]:
