@@ -53,7 +53,8 @@ class Needs:
             if self.left_out.get(needed) == STARTS_ANOTHER:
                 raise Refused(item.place, f"needs: `{needed}` is left out, so that this job would begin too early")
             if needed in self.left_out or not (optional or self.needed(item, needed)):
-                self.leave_out(name, item.place, f"it needs `{needed}`, which isn't there")
+                cause = f"it needs rows of `{needed}` that it doesn't have" if self.names.get(needed) else f"it needs `{needed}`, which isn't there"
+                self.leave_out(name, item.place, cause)
                 return True
         return False
 
