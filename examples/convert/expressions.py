@@ -49,7 +49,8 @@ def pattern_of(token: str, values: dict[str, str]) -> str | None:
     found = PATTERN.fullmatch(token)
     if not found:
         return None
-    source, flags = found[1], found[2]
+    source = re.sub(r"\\.|/", lambda it: "\\/" if it[0] == "/" else it[0], found[1], flags=re.S)
+    flags = found[2]
     others = "".join(sorted(set(flags) - {"i"}))
     return f"/{f'(?{others})' if others else ''}{source}/{'i' if 'i' in flags else ''}"
 

@@ -4,7 +4,7 @@ from __future__ import annotations
 import re
 
 from .conditions import tell_patterns, tell_sources
-from .expressions import PATTERN, expression, pattern_of
+from .expressions import PATTERN, expression, formula, pattern_of
 from .keywords import SOURCES
 from .notes import Notes
 from .tree import Map, Refused, Text, flat, is_null
@@ -51,7 +51,7 @@ class Refs:
             if key == "refs" and not self.is_of_project(keyword, given):
                 return None
             found = ref(given) if key == "refs" else expression(given, self.values)
-        if found is None:
+        if found is None or formula(found) is None:
             raise Refused(given.place, f"{keyword}: `{given}` can't be said here")
         tell_sources(self.notes, found, given.place)
         if key == "variables":

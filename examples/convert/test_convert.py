@@ -264,6 +264,7 @@ class Refusals(unittest.TestCase):
         ("build:\n  script: make\n  <<: x", 3, "a merge key wants maps"),
         ("build:\n  script: make\n  only: [main, {a: b}]", 3, "only: `{'a': 'b'}` can't be said here"),
         ("build:\n  script: make\n  only: {variables: [$A =~ $B]}", 3, "only: `$A =~ $B` can't be said here"),
+        ("build:\n  script: make\n  except: ['/x\\/']", 3, "except: `/x\\/` can't be said here"),
         ("build:\n  script: make\n  allow_failure: {exit_codes: [x]}", 3, "allow_failure: `exit_codes` is no number, and no list of them"),
         ("build:\n  script: make\n  rules: [x]", 3, "a rule is no map"),
         ("workflow: {rules: [x]}\n" + JOB, 1, "a rule is no map"),
