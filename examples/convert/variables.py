@@ -3,7 +3,7 @@ from __future__ import annotations
 
 import re
 
-from .keywords import GIT, GIT_READ
+from .keywords import GIT_READ, OF_RUNNER
 from .notes import Notes
 from .tree import Map, Place, Refused, Text, boolean, handed_out, text
 
@@ -35,16 +35,16 @@ class Variables:
             elif not isinstance(value, Text):
                 raise Refused(place, f"the value of the variable `{key}` is no text")
             else:
-                self.tell_git(key, place)
+                self.tell_of_runner(key, place)
                 tell_number(self.notes, "variables", value)
                 made = handed_out(value)
                 values[key] = text(made if raw or names_in(made) else made.replace("$$", "$"), place, raw=raw or not names_in(made))
         return values
 
-    def tell_git(self, key: str, place: Place) -> None:
+    def tell_of_runner(self, key: str, place: Place) -> None:
         if key in GIT_READ:
             self.notes.add(place, f"variables: `{key}`: ciserver-runner does as it says, examples/runner.sh doesn't")
-        elif GIT.fullmatch(key):
+        elif OF_RUNNER.fullmatch(key):
             self.notes.add(place, f"variables: no runner here looks at `{key}`")
 
 
