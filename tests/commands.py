@@ -69,7 +69,7 @@ class Runs:
         words, sign, wanted = text.partition(' = ')
         if not sign:
             raise Unread('a run without what is wanted')
-        words = [self.path(word.decode()) for word in words_of(words)]
+        words = [self.path(os.fsdecode(word)) for word in words_of(words)]
         if words[:1] != ['ciserver']:
             raise Unread('the program is named first')
         ran = self.world.command(*words[1:])
