@@ -34,30 +34,31 @@ class Mask:
     def add(self, values: Iterable[bytes]) -> None:
         self.values = sorted({*self.values, *values}, key=len, reverse=True)
         self.pattern = re.compile(b"|".join(map(re.escape, self.values))) if self.values else None
-        self.firsts = {value[0] for value in self.values}
 
     def feed(self, data: bytes) -> bytes:
         if not self.pattern:
             return data
         text, out, place = self.held + data, [], 0
-        while True:
-            begun = self._begun(text, place)
-            match = self.pattern.search(text, place)
-            if not match or match.start() >= begun:
-                out.append(text[place:begun])
-                self.held = text[begun:]
-                return b"".join(out)
+        begun = self._begun(text, 0)
+        while (match := self.pattern.search(text, place)) and match.start() < begun:
             out += [text[place:match.start()], MASK]
             place = match.end()
+            if place > begun:
+                begun = self._begun(text, place)
+        out.append(text[place:begun])
+        self.held = text[begun:]
+        return b"".join(out)
 
     def _begun(self, text: bytes, place: int) -> int:
         """Where, from a place on, the rest of a text first is a part of a value that may go on."""
-        for start in range(max(place, len(text) - len(self.values[0]) + 1), len(text)):
-            if text[start] in self.firsts:
-                rest = text[start:]
-                if any(len(rest) < len(value) and value.startswith(rest) for value in self.values):
-                    return start
-        return len(text)
+        begun = len(text)
+        for value in self.values:
+            start = max(place, len(text) - len(value) + 1)
+            while (start := text.find(value[:1], start, begun)) >= 0:
+                if value.startswith(text[start:]):
+                    begun = start
+                start += 1
+        return begun
 
     def flush(self) -> bytes:
         text, self.held = self.held, b""

@@ -43,6 +43,13 @@ class Masks(unittest.TestCase):
             self.assertEqual(self.masked(values, pieces), self.masked(values, [text]))
             self.assertFalse(any(value in self.masked(values, pieces) for value in values))
 
+    def test_a_long_value_costs_no_more_for_each_time_that_another_is_printed(self) -> None:
+        key = "\n".join(f"{number:064}" for number in range(100))
+        begun = time.process_time()
+        text = self.masked(values_to_mask([key, "password"]), [b"x password y\n" * 5_000])
+        self.assertLess(time.process_time() - begun, 5)
+        self.assertEqual(text, b"x [MASKED] y\n" * 5_000)
+
     def test_what_is_looked_for(self) -> None:
         whole = "first line\n  x\nlong enough"
         self.assertEqual(values_to_mask(["abc", "", "key", whole]), [whole.encode(), b"long enough", b"first line"])
