@@ -4,6 +4,7 @@ from __future__ import annotations
 import argparse
 import os
 import re
+import ssl
 import tomllib
 import urllib.parse
 from dataclasses import dataclass, field
@@ -27,6 +28,7 @@ class Project:
 class Config:
     url: str = ""
     token: str = ""
+    token_file: str = ""
     name: str = ""
     folder: str = ""
     ca_file: str = ""
@@ -58,7 +60,7 @@ class Config:
 
 # The key of a table, the field that it fills, the kind of its value, and what a number is multiplied by.
 TOP = {
-    "url": ("url", str, 1), "name": ("name", str, 1), "folder": ("folder", str, 1), "ca_file": ("ca_file", str, 1),
+    "url": ("url", str, 1), "token": ("token", str, 1), "token_file": ("token_file", str, 1), "name": ("name", str, 1), "folder": ("folder", str, 1), "ca_file": ("ca_file", str, 1),
     "concurrent": ("concurrent", int, 1), "longest_pause_seconds": ("longest_pause", int, 1), "where": ("where", str, 1),
     "shell": ("shell", str, 1), "path": ("path", str, 1), "images_in_shell": ("images_in_shell", bool, 1), "masked": ("masked", list, 1),
 }
@@ -85,6 +87,9 @@ def from_words(words: list[str]) -> Config:
                         help="the repository of a project, by its number; it may stand several times")
     asked = parser.parse_args(words)
     table = _read(asked.config) if asked.config else {}
+    _check_projects(table)
+    if asked.token_file:
+        table.pop("token", None)
     for word in ("url", "token_file", "name", "folder", "where", "concurrent"):
         if getattr(asked, word) is not None:
             table[word] = getattr(asked, word)
@@ -96,13 +101,14 @@ def from_words(words: list[str]) -> Config:
 
 def from_table(table: dict) -> Config:
     config = Config()
+    _check_projects(table)
     rest = dict(table)
-    token, token_file = rest.pop("token", ""), rest.pop("token_file", "")
     projects = rest.pop("projects", {})
     for name, keys in TABLES.items():
         _fill(config, keys, rest.pop(name, {}), f"{name}.")
     _fill(config, TOP, rest, "")
-    config.token = str(token) or (_first_line(token_file) if token_file else "")
+    if config.token_file and not config.token:
+        config.token = _first_line(config.token_file)
     config.projects = {_number(key): _project(key, value) for key, value in projects.items()}
     _check(config)
     config.url = config.url.rstrip("/")
@@ -116,15 +122,32 @@ def _check(config: Config) -> None:
     for key in ("url", "token", "folder"):
         if not getattr(config, key):
             raise Fault(f"`{key}` is missing")
-    parts = urllib.parse.urlsplit(config.url)
-    if parts.scheme not in ("http", "https") or not parts.hostname:
+    if not _is_address(config.url):
         raise Fault("`url` is http://HOST or https://HOST, with a port where it has another one")
+    if config.ca_file:
+        try:
+            ssl.create_default_context(cafile=config.ca_file)
+        except OSError as fault:
+            raise Fault(f"cannot read certificates of {config.ca_file}: {fault.strerror or fault}") from fault
     if config.where not in ("shell", "container"):
         raise Fault("`where` is `shell` or `container`")
     if config.engine not in ("podman", "docker"):
         raise Fault("`container.engine` is `podman` or `docker`")
     if not config.name:
         config.name = os.uname().nodename
+
+
+def _is_address(url: str) -> bool:
+    try:
+        parts = urllib.parse.urlsplit(url)
+        return parts.scheme in ("http", "https") and bool(parts.hostname) and parts.port != 0
+    except ValueError:
+        return False
+
+
+def _check_projects(table: dict) -> None:
+    if not isinstance(table.get("projects", {}), dict):
+        raise Fault("`projects` is a table")
 
 
 def _read(path: str) -> dict:
@@ -174,7 +197,14 @@ def _project(key: str, table: object) -> Project:
     repository = table.get("repository", "")
     if not repository or repository.startswith("-"):
         raise Fault(f"`{place}.repository` is the address of a Git repository, or a path")
-    if urllib.parse.urlsplit(repository).password:
+    try:
+        parts = urllib.parse.urlsplit(repository)
+    except ValueError as fault:
+        raise Fault(f"`{place}.repository`: {fault}") from fault
+    if parts.password:
         raise Fault(f"`{place}.repository` has a password: it belongs into a file, and that into `password_file`")
     password = _first_line(table["password_file"]) if "password_file" in table else ""
-    return Project(repository, table.get("user", ""), password, table.get("ssh_key", ""))
+    # Git runs in other folders than the runner.
+    repository = os.path.abspath(repository) if os.path.exists(repository) else repository
+    ssh_key = os.path.abspath(table["ssh_key"]) if table.get("ssh_key") else ""
+    return Project(repository, table.get("user") or urllib.parse.unquote(parts.username or ""), password, ssh_key)

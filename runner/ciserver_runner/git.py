@@ -4,6 +4,7 @@ from __future__ import annotations
 import fcntl
 import os
 import re
+import shlex
 import subprocess
 import urllib.parse
 from typing import TYPE_CHECKING
@@ -112,7 +113,7 @@ def _environment(project: Project) -> dict[str, str]:
     values = {name: os.environ[name] for name in ("PATH", "HOME") if name in os.environ}
     values |= {"LANG": "C.UTF-8", "GIT_TERMINAL_PROMPT": "0"}
     if project.ssh_key:
-        values["GIT_SSH_COMMAND"] = f"ssh -i '{project.ssh_key}' -o IdentitiesOnly=yes -o BatchMode=yes"
+        values["GIT_SSH_COMMAND"] = f"ssh -i {shlex.quote(project.ssh_key)} -o IdentitiesOnly=yes -o BatchMode=yes"
     if project.password:
         parts = urllib.parse.urlsplit(project.repository)
         helper = "!f() { test \"$1\" != get || printf 'username=%s\\npassword=%s\\n' \"$RUNNER_USER\" \"$RUNNER_PASSWORD\"; }; f"

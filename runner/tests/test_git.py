@@ -86,6 +86,13 @@ class Passwords(Case):
         self.assertTrue(any(self.shown.seen))
         self.assertEqual(set(self.other.seen), {None})
 
+    def test_a_user_that_the_address_names(self) -> None:
+        repository, self.work = self.work, f"{self.shown.url.replace('//', '//ci@')}/work/.git"
+        self.begin_runner(self.token, rest=f'password_file = "{self.path("password")}"\n')
+        number = self.project.pipeline("a:\n  script: cat hello.txt\n")
+        self.work = repository
+        self.assertEqual(self.project.ends(number), "success", self.project.trace(1, "a"))
+
 
 class Programs(Case):
     def setUp(self) -> None:

@@ -2,6 +2,7 @@
 import glob
 import os
 import random
+import shlex
 import shutil
 import subprocess
 import sys
@@ -13,7 +14,7 @@ from support import RUNNER, run
 
 sys.path.insert(0, os.path.dirname(RUNNER))
 
-from ciserver_runner import config, pack, script, store, where  # noqa: E402
+from ciserver_runner import config, git, pack, script, store, where  # noqa: E402
 from ciserver_runner.refused import Refused  # noqa: E402
 from ciserver_runner.trace import HEAD, LIMIT, TAIL, Mask, Trace, values_to_mask  # noqa: E402
 
@@ -150,7 +151,12 @@ class Configurations(unittest.TestCase):
                            ({"cache": 1}, "`cache` is a table"),
                            ({"projects": {"x": {}}}, "a project is told by its number"), ({"projects": {"1": {}}}, "the address of a Git repository"),
                            ({"projects": {"1": {"repository": "https://a:b@h/r"}}}, "has a password"),
-                           ({"projects": {"1": {"repository": "r", "branch": "x"}}}, "unknown"),
+                           ({"projects": {"1": {"repository": "r", "branch": "x"}}}, "unknown"), ({"projects": ["r"]}, "`projects` is a table"),
+                           ({"projects": {"1": {"repository": "ssh://[::1/r"}}}, "`projects.1.repository`: Invalid IPv6 URL"),
+                           ({"url": "http://h:x"}, "`url` is http"), ({"url": "http://h:65536"}, "`url` is http"), ({"url": "http://[::1"}, "`url` is http"),
+                           ({"ca_file": "/none"}, "cannot read certificates of /none: No such file or directory"),
+                           ({"ca_file": os.path.realpath(__file__)}, "cannot read certificates of .*no certificate"),
+                           ({"token": 5}, "`token` is a text"), ({"token_file": True}, "`token_file` is a text"),
                            ({"token": ""}, "`token` is missing"), ({"token": "", "token_file": "/none"}, "cannot read /none")):
             with self.assertRaisesRegex(config.Fault, told):
                 config.from_table(self.GOOD | more)
@@ -164,6 +170,18 @@ class Configurations(unittest.TestCase):
             example = os.path.join(os.path.dirname(RUNNER), "config.example.toml")
             made = config.from_words(["--config", example, "--token-file", file.name])
             self.assertEqual(made.number, "3")
+            with tempfile.NamedTemporaryFile("w", suffix=".toml") as table:
+                table.write('url = "http://h"\nfolder = "f"\ntoken = "r4-ab"\n')
+                table.flush()
+                self.assertEqual(config.from_words(["--config", table.name]).number, "4")
+                self.assertEqual(config.from_words(["--config", table.name, "--token-file", file.name]).number, "3")
+
+    def test_paths_are_those_of_the_folder_that_the_runner_begins_in(self) -> None:
+        table = {"repository": os.path.basename(__file__), "ssh_key": "key's"}
+        made = config.from_table(self.GOOD | {"projects": {"1": table, "2": {"repository": "host:r"}}})
+        here = os.getcwd()
+        self.assertEqual((made.projects[1].repository, made.projects[2].repository), (f"{here}/{table['repository']}", "host:r"))
+        self.assertEqual(shlex.split(git._environment(made.projects[1])["GIT_SSH_COMMAND"])[:3], ["ssh", "-i", f"{here}/key's"])
 
     def test_the_program_says_what_is_wrong(self) -> None:
         done = subprocess.run([RUNNER, "--url", "http://h", "--folder", "f"], stderr=subprocess.PIPE, text=True, check=False)
