@@ -3,12 +3,14 @@ from __future__ import annotations
 
 import json
 import os
+import select
 import subprocess
 import sys
 import threading
 from typing import Callable
 
 SUPERVISOR = os.path.join(os.path.dirname(os.path.realpath(__file__)), "supervisor.py")
+PIPE = 1_048_576  # so many bytes may wait in a pipe
 
 
 class Command:
@@ -34,14 +36,31 @@ class Command:
         self._tell(f"end {seconds}\n")
 
     def run(self, sink: Callable[[bytes], None]) -> int:
-        """Hands on what it prints, and answers its exit code."""
-        while data := os.read(self.process.stdout.fileno(), 65_536):
-            sink(data)
+        """Hands on what it prints, and answers its exit code; a negative one where the process over it was killed."""
+        self._hand_on(self.process.stdout.fileno(), sink)
         code = self.process.wait()
         self.process.stdout.close()
         with self.lock:
             self.process.stdin.close()
         return code
+
+    def _hand_on(self, output: int, sink: Callable[[bytes], None]) -> None:
+        """Hands on what is printed, until nobody prints. Who prints on when all has ended, as another user's process, isn't waited for."""
+        printed = select.poll()
+        printed.register(output, select.POLLIN)
+        left = None
+        while left is None or left > 0:
+            if left is None and self.process.poll() is not None:
+                left = PIPE
+            if not printed.poll(500 if left is None else 0):
+                if left is None:
+                    continue
+                break
+            data = os.read(output, 65_536)
+            if not data:
+                break
+            sink(data)
+            left = None if left is None else left - len(data)
 
     def _tell(self, line: str) -> None:
         with self.lock:

@@ -136,6 +136,8 @@ class Job:
                 self.command = None
         self.watch()
         self.check()
+        if code < 0:
+            raise Refused(f"the process over {words[0]} was killed")
         return code
 
     def check(self) -> None:

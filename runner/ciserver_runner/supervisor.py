@@ -4,7 +4,8 @@ It is a program of its own, so that no job outlives its runner or its lease, wha
 what the command has on standard input, and what is asked, as JSON: `words`, `folder`, `environment`, `until` (the second of the clock by which
 all must be gone), `after` (commands that take away what isn't below this process, as containers), `leave` (what it started stays where it ends
 by itself). On standard input it is told `until SECOND` and `end SECONDS`; that this closes means that the runner is gone.
-It ends as the command did; by a signal N with 128 + N.
+It ends as the command did; by a signal N with 128 + N. The process that does all this has one over itself, which kills what is left where a command
+kills its parent.
 """
 import ctypes
 import json
@@ -47,11 +48,11 @@ class Supervisor:
             if self.killed_at is None and now() >= self.until - GRACE:
                 self.end(GRACE)
             if self.killed_at is not None and now() >= min(self.killed_at, self.until):
-                self.take_away()
-                self.kill_all()
+                take_away(self.after)
+                kill_all()
         if self.killed_at is not None or not self.leave:
-            self.kill_all()
-            self.take_away()
+            kill_all()
+            take_away(self.after)
         return self.status if self.status >= 0 else 128 - self.status
 
     def listen(self):
@@ -98,26 +99,27 @@ class Supervisor:
         except (ProcessLookupError, PermissionError):
             pass
 
-    def kill_all(self):
-        """Kills what is below this process, until nothing is: what left the group or lost its parent too."""
-        for _ in range(200):
-            found = below(os.getpid())
-            if not found:
-                break
-            for process in found:
-                try:
-                    os.kill(process, signal.SIGKILL)
-                except (ProcessLookupError, PermissionError):
-                    pass
-            time.sleep(0.01)
-            self.has_ended()
 
-    def take_away(self):
-        for words in self.after:
+def kill_all():
+    """Kills what is below this process, until nothing is: what left the group or lost its parent too."""
+    for _ in range(200):
+        found = below(os.getpid())
+        if not found:
+            break
+        for process in found:
             try:
-                subprocess.run(words, stdin=subprocess.DEVNULL, stdout=subprocess.DEVNULL, stderr=subprocess.DEVNULL, timeout=30, check=False)
-            except (OSError, subprocess.TimeoutExpired):
+                os.kill(process, signal.SIGKILL)
+            except (ProcessLookupError, PermissionError):
                 pass
+        time.sleep(0.01)
+
+
+def take_away(after):
+    for words in after:
+        try:
+            subprocess.run(words, stdin=subprocess.DEVNULL, stdout=subprocess.DEVNULL, stderr=subprocess.DEVNULL, timeout=30, check=False)
+        except (OSError, subprocess.TimeoutExpired):
+            pass
 
 
 def below(process):
@@ -145,6 +147,16 @@ def die_with_parent():
     prctl(PR_SET_PDEATHSIG, signal.SIGKILL)
 
 
+def supervised(asked, stdin):
+    prctl(PR_SET_CHILD_SUBREAPER, 1)
+    try:
+        supervisor = Supervisor(asked, stdin)
+    except OSError as fault:
+        print(f"cannot run {asked['words'][0]}: {fault.strerror}", flush=True)
+        return 127
+    return supervisor.supervise()
+
+
 def main():
     stdin = int(sys.argv[1])
     with open(int(sys.argv[2]), encoding="utf-8") as file:
@@ -153,12 +165,17 @@ def main():
     os.umask(0o022)  # nobody else comes into the runner's folder
     for number in (signal.SIGTERM, signal.SIGINT, signal.SIGHUP):
         signal.signal(number, lambda *_: None)  # the runner says when to end; a command has these signals as ever
-    try:
-        supervisor = Supervisor(asked, stdin)
-    except OSError as fault:
-        print(f"cannot run {asked['words'][0]}: {fault.strerror}", flush=True)
-        return 127
-    return supervisor.supervise()
+    process = os.fork()
+    if not process:
+        return supervised(asked, stdin)
+    os.close(stdin)
+    status = os.waitstatus_to_exitcode(os.waitpid(process, 0)[1])
+    if status < 0:
+        kill_all()
+        take_away(asked["after"])
+        print("\nthe process over the command was killed", flush=True)
+        return 128 - status
+    return status
 
 
 if __name__ == "__main__":

@@ -1,6 +1,7 @@
 """Jobs of a real server, in commits of a real repository."""
 import re
 import subprocess
+import time
 import unittest
 
 from support import Case, Project, run, until
@@ -125,6 +126,25 @@ class Jobs(Case):
         self.assertTrue(all(sizes), sizes)
         subprocess.run(["sleep", "0.5"], check=True)
         self.assertEqual([len(self.read("left")), len(self.read("left2"))], sizes)
+
+    def test_a_script_that_kills_its_parent(self) -> None:
+        number, status = self.ended(f"build:\n  script: (while sleep 0.1; do echo a; done) > {self.path('left')} & sleep 1; kill -9 $PPID; sleep 9\n")
+        self.assertEqual(status, "failed")
+        size = len(self.read("left"))
+        self.assertTrue(size)
+        self.assertRegex(self.project.trace(number, "build"), "\nthe process over the command was killed\nended: exit code 137\n$")
+        time.sleep(0.5)
+        self.assertEqual(len(self.read("left")), size)
+        self.server.kill()
+        self.assertEqual(self.server.rows("SELECT state, cause, exit FROM attempt"), ["2|1|137"])
+
+    def test_a_process_that_nobody_may_kill_isnt_waited_for(self) -> None:
+        self.begin_runner(self.token)
+        number = self.project.pipeline(f"build:\n  script: echo $$ > {self.room}/pid; sleep 2; echo the end\n")
+        until(lambda: self.lines("pid"))
+        with open(f"/proc/{self.lines('pid')[0]}/fd/1", "wb"):  # this test stands for it
+            self.assertEqual(self.project.ends(number, 20), "success")
+        self.assertIn("\nthe end\nended: exit code 0\n", self.project.trace(number, "build"))
 
     def test_several_at_once_in_folders_of_their_own(self) -> None:
         meet = (f"  timeout: 1 minute\n  script:\n    - pwd > {self.room}/$CI_JOB_NAME; touch here; test $(ls | wc -l) = 2\n"
