@@ -10,6 +10,8 @@ from typing import Callable
 
 from .refused import Refused
 
+MOST_SIGNS = 200_000  # of all patterns without {a,b} that one may stand for
+
 
 def normal(pattern: str, root: str) -> str:
     """A pattern of paths below a folder, as it is compared; refused where it leaves the folder."""
@@ -23,35 +25,65 @@ def normal(pattern: str, root: str) -> str:
 
 def compiled(pattern: str) -> re.Pattern:
     """`*` and `?` stand for no slash, `**` for any folders, [a-z] for one of these, {a,b} for either."""
-    out, place, depth = [], 0, 0
-    while place < len(pattern):
-        sign = pattern[place]
-        bracket = re.compile(r"\[([!^]?)(\]?[^\]]*)\]").match(pattern, place)
-        if pattern.startswith("**/", place):
-            out.append("(?:.*/)?")
-            place += 3
-            continue
-        if pattern.startswith("**", place):
-            out.append(".*")
-            place += 2
-            continue
-        if sign == "[" and bracket:
-            inside = re.sub(r"([\\\[\]&~|])", r"\\\1", bracket[2])
-            out.append(f"(?!/)[{'^' if bracket[1] else ''}{inside}]")
-            place = bracket.end()
-            continue
-        depth += (sign == "{") - (sign == "}" and depth > 0)
-        out.append({"*": "[^/]*", "?": "[^/]", "{": "(?:", "}": ")" if depth >= 0 else "\\}", ",": "|" if depth else ","}.get(sign)
-                   or re.escape(sign))
-        place += 1
     try:
-        return re.compile("".join(out), re.DOTALL)
+        return re.compile("|".join(map(_expression, _either(pattern))), re.DOTALL)
     except re.error as fault:
         raise Refused(f"the pattern {pattern!r} can't be read") from fault
 
 
-def matching(root: str, patterns: list[str], excluded: list[str]) -> list[str]:
+def _either(pattern: str) -> list[list[str]]:
+    """The patterns without {a,b} that one stands for, by their signs."""
+    open_ones, found = [re.findall(r"\*\*/?|\[[!^]?\]?[^\]]*\]|.", pattern, re.DOTALL)], []
+    while open_ones:
+        signs = open_ones.pop()
+        if "{" not in signs:
+            found.append(signs)
+            continue
+        start = len(signs) - 1 - signs[::-1].index("{")
+        if "}" not in signs[start:]:
+            raise Refused(f"the pattern {pattern!r} can't be read")
+        end = signs.index("}", start)
+        cuts = [start, *(place for place in range(start, end) if signs[place] == ","), end]
+        if (len(open_ones) + len(found) + len(cuts)) * len(signs) > MOST_SIGNS:
+            raise Refused(f"a pattern of {len(pattern)} signs stands for too many others")
+        open_ones += [signs[:start] + signs[left + 1:right] + signs[end + 1:] for left, right in zip(cuts, cuts[1:])]
+    return found
+
+
+def _expression(signs: list[str]) -> str:
+    """The expression of a pattern without {a,b}. What follows a `*` or a `**` is looked for once where another one comes behind it: its first
+    place leaves most for the rest. So no name takes long to compare."""
+    groups, before = [("", [""])], "/"  # of what stands between `**`: what leads to it, and what stands between its `*`
+    for sign in signs:
+        if sign == "**/" and before.endswith("/"):
+            groups.append(("(?:.*?/)??", [""]))
+        elif sign.startswith("**"):
+            groups.append((".*?", [sign[2:]]))
+        elif sign == "*":
+            groups[-1][1].append("")
+        else:
+            groups[-1][1][-1] += _sign(sign)
+        before = sign
+    texts = [lead + first + "".join(f"(?>[^/]*?{chunk})" for chunk in chunks) for lead, (first, *chunks) in groups[:-1]]
+    lead, (first, *chunks) = groups[-1]
+    last = f"[^/]*{chunks.pop()}" if chunks else ""
+    return "".join(f"(?>{text})" for text in texts) + lead + first + "".join(f"(?>[^/]*?{chunk})" for chunk in chunks) + last
+
+
+def _sign(sign: str) -> str:
+    if sign == "?":
+        return "[^/]"
+    if len(sign) == 1:
+        return re.escape(sign)
+    negated = sign[1] in "!^"
+    inside = re.sub(r"([\\\[\]&~|])", r"\\\1", sign[1 + negated:-1])
+    return f"(?!/)[{'^' * negated}{inside}]"
+
+
+def matching(root: str, patterns: list[str], excluded: list[str], check: Callable[[], None]) -> list[str]:
     """The paths below a folder that patterns take: what matches, and all below a folder that does; but none of `.git`."""
+    if os.path.islink(root):
+        raise Refused("the project's folder is a link")
     without = [compiled(normal(pattern, root)) for pattern in excluded]
     found = set()
     for pattern in patterns:
@@ -62,11 +94,12 @@ def matching(root: str, patterns: list[str], excluded: list[str]) -> list[str]:
                 break
             fixed.append(part)
         looked = compiled(whole) if whole else None
-        _walk(root, "/".join(fixed), looked is None, looked, found)
+        if fixed[:1] != [".git"]:
+            _walk(root, "/".join(fixed), looked is None, looked, found, check)
     return sorted(name for name in found if not any(it.fullmatch(name) for it in without))
 
 
-def _walk(root: str, folder: str, taken: bool, looked: re.Pattern | None, found: set[str]) -> None:
+def _walk(root: str, folder: str, taken: bool, looked: re.Pattern | None, found: set[str], check: Callable[[], None]) -> None:
     if _through_link(root, folder):
         return
     try:
@@ -74,6 +107,7 @@ def _walk(root: str, folder: str, taken: bool, looked: re.Pattern | None, found:
     except OSError:
         return
     for entry in entries:
+        check()
         name = posixpath.join(folder, entry.name)
         if name == ".git":
             continue
@@ -81,7 +115,7 @@ def _walk(root: str, folder: str, taken: bool, looked: re.Pattern | None, found:
         if takes:
             found.add(name)
         if entry.is_dir(follow_symlinks=False):
-            _walk(root, name, takes, looked, found)
+            _walk(root, name, takes, looked, found, check)
 
 
 def _through_link(root: str, name: str) -> bool:
@@ -122,27 +156,32 @@ def pack(root: str, names: list[str], path: str, limit: int, check: Callable[[],
 
 def unpack(path: str, root: str, check: Callable[[], None]) -> int:
     """Lays the files of a tar file below a folder, over those that are there; answers how many."""
-    count = 0
-    with tarfile.open(path, "r") as tar:
-        for member in tar:
-            check()
-            name = normal(member.name, root)
-            _make_folders(root, posixpath.dirname(name))
-            place = os.path.join(root, name)
-            if member.isdir():
-                _make_folders(root, name)
-                os.chmod(place, member.mode & 0o777 | 0o700)
-                continue
-            if os.path.isdir(place) and not os.path.islink(place):
-                raise Refused(f"{name} is to be a file, and is a folder")
-            if os.path.lexists(place):
-                os.unlink(place)
-            if member.issym():
-                os.symlink(member.linkname, place)
-            elif member.isfile():
-                _write(tar, member, place)
-            count += 1
-    return count
+    try:
+        with tarfile.open(path, "r") as tar:
+            return sum(_lay(tar, member, root, check) for member in tar)
+    except tarfile.TarError as fault:
+        raise Refused(f"{path} can't be read: {fault}") from fault
+
+
+def _lay(tar: tarfile.TarFile, member: tarfile.TarInfo, root: str, check: Callable[[], None]) -> int:
+    """Lays one file, or makes one folder; answers how many files that are."""
+    check()
+    name = normal(member.name, root)
+    _make_folders(root, posixpath.dirname(name))
+    place = os.path.join(root, name)
+    if member.isdir():
+        _make_folders(root, name)
+        os.chmod(place, member.mode & 0o777 | 0o700)
+        return 0
+    if os.path.isdir(place) and not os.path.islink(place):
+        raise Refused(f"{name} is to be a file, and is a folder")
+    if os.path.lexists(place):
+        os.unlink(place)
+    if member.issym():
+        os.symlink(member.linkname, place)
+    elif member.isfile():
+        _write(tar, member, place)
+    return 1
 
 
 def _make_folders(root: str, name: str) -> None:

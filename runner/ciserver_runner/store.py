@@ -5,7 +5,6 @@ import glob
 import hashlib
 import json
 import os
-import shutil
 import subprocess
 import time
 from typing import TYPE_CHECKING
@@ -15,6 +14,8 @@ from .refused import Refused
 
 if TYPE_CHECKING:
     from .job import Job
+
+LEFT = 86_400  # seconds after which a file that is being written is one that nobody writes
 
 
 def _lines(job: Job, name: str) -> list[str]:
@@ -60,7 +61,7 @@ def keep_artifacts(job: Job, success: bool) -> None:
     job.has_kept = True
     path = os.path.join(_folder(job), str(job.attempt))
     if kept:
-        names = matching(job.folder, patterns, _lines(job, "CI_JOB_ARTIFACTS_EXCLUDE"))
+        names = matching(job.folder, patterns, _lines(job, "CI_JOB_ARTIFACTS_EXCLUDE"), job.check)
         _pack(job, names, path + ".tar", job.config.artifacts_limit)
         files = sum(not os.path.isdir(os.path.join(job.folder, name)) for name in names)
         job.trace.line(f"artifacts: {_files(files)} kept" if files else "artifacts: no file matches")
@@ -77,17 +78,29 @@ def drop_artifacts(job: Job) -> None:
 
 
 def remove_expired(root: str) -> None:
-    """Removes artifacts whose time is over, and folders of pipelines that are left without any."""
+    """Removes artifacts whose time is over, what a runner that was killed left of some, and folders of pipelines that are left without any."""
     for path in glob.glob(os.path.join(glob.escape(root), "*", "*", "*.json")):
         record = _record(path)
         if not record or record["expires"] < time.time():
             _remove(path)
             _remove(path.removesuffix(".json") + ".tar")
+    for path in glob.glob(os.path.join(glob.escape(root), "*", "*", "*")):
+        if path.endswith(".new") or not os.path.exists(path.removesuffix(".tar").removesuffix(".json") + ".json"):
+            _remove_old(path)
     for folder in glob.glob(os.path.join(glob.escape(root), "*", "*")):
         try:
             os.rmdir(folder)
         except OSError:
             pass  # it isn't empty
+
+
+def _remove_old(path: str) -> None:
+    """Removes a file that nobody has written for a day."""
+    try:
+        if os.stat(path).st_mtime < time.time() - LEFT:
+            os.unlink(path)
+    except FileNotFoundError:
+        pass
 
 
 def _wishes(job: Job) -> tuple[str, int]:
@@ -109,11 +122,14 @@ def _folder(job: Job) -> str:
 
 
 def _record(path: str) -> dict | None:
+    """What is noted of an attempt's artifacts; nothing where it can't be read."""
     try:
         with open(path, encoding="utf-8") as file:
-            return json.load(file)
+            record = json.load(file)
     except (OSError, ValueError):
         return None
+    kinds = {"job": str, "stage": str, "attempt": int, "kept": bool, "expires": float}
+    return record if isinstance(record, dict) and all(type(record.get(key)) is kind for key, kind in kinds.items()) else None
 
 
 def caches(job: Job) -> list[tuple[str, str, list[str]]]:
@@ -129,11 +145,16 @@ def caches(job: Job) -> list[tuple[str, str, list[str]]]:
 
 
 def lay_caches(job: Job) -> None:
+    """Lays a job's caches. One that can't be laid is removed, so that it fails no job, and the job makes it anew."""
     for key, policy, _ in caches(job):
         path = _cache(job, key)
         if policy != "push" and os.path.exists(path):
-            os.utime(path)
-            job.trace.line(f"cache {key}: {_files(unpack(path, job.folder, job.check))}")
+            try:
+                os.utime(path)
+                job.trace.line(f"cache {key}: {_files(unpack(path, job.folder, job.check))}")
+            except (Refused, FileNotFoundError) as fault:
+                job.trace.line(f"cache {key} isn't laid, and goes: {fault}")
+                _remove(path)
 
 
 def keep_caches(job: Job) -> None:
@@ -141,20 +162,25 @@ def keep_caches(job: Job) -> None:
         if policy == "pull":
             continue
         path = _cache(job, key)
-        os.makedirs(os.path.dirname(path), exist_ok=True)
-        names = matching(job.folder, paths, [])
         try:
+            os.makedirs(os.path.dirname(path), exist_ok=True)
+            names = matching(job.folder, paths, [], job.check)
             if names:
                 _pack(job, names, path, job.config.cache_limit)
             job.trace.line(f"cache {key}: kept" if names else f"cache {key}: no file matches")
-        except Refused as fault:
+        except (Refused, OSError) as fault:
             job.trace.line(f"cache {key} isn't kept: {fault}")
-    make_room(job.config.cache_folder, job.config.cache_total)
+    try:
+        make_room(job.config.cache_folder, job.config.cache_total)
+    except OSError as fault:
+        job.trace.line(f"no room is made for caches: {fault}")
 
 
 def make_room(root: str, limit: int) -> None:
-    """Removes the caches that were used longest ago, until the others are within a limit."""
+    """Removes the caches that were used longest ago, until the others are within a limit, and what a runner that was killed left of some."""
     left = limit
+    for path in glob.glob(os.path.join(glob.escape(root), "*", "*.new")):
+        _remove_old(path)
     paths = glob.glob(os.path.join(glob.escape(root), "*", "*.tar"))
     for path in sorted(paths, key=_used, reverse=True):
         try:
@@ -194,8 +220,7 @@ def _remove(path: str) -> None:
 
 
 def remove_tree(path: str) -> None:
-    """Removes a folder with all that a job left in it, folders that may not be written too."""
-    shutil.rmtree(path, ignore_errors=True)
-    if os.path.lexists(path):
-        subprocess.run(["chmod", "-R", "u+rwX", path], stderr=subprocess.DEVNULL, check=False)
-        shutil.rmtree(path, ignore_errors=True)
+    """Removes a folder with all that a job left in it, folders that may not be written too, and however deep they are."""
+    for words in (["rm", "-rf"], ["chmod", "-R", "u+rwX"], ["rm", "-rf"]):
+        if os.path.lexists(path):
+            subprocess.run([*words, path], stdin=subprocess.DEVNULL, stderr=subprocess.DEVNULL, check=False)

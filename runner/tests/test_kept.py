@@ -96,6 +96,39 @@ class Artifacts(Case):
         self.assert_line(self.project.trace(1, "both"), "the runner failed: out is to be a folder, and is something else")
         self.assertEqual(os.listdir(os.path.dirname(outside)), ["secret.txt"])
 
+    def test_a_link_in_place_of_the_folder(self) -> None:
+        self.write("outside/secret.txt", "secret\n")
+        file = "".join(f"{name}:\n  stage: build\n  allow_failure: true\n  variables:\n    {variable}\n  script: cd ..; mv project other; "
+                       f"ln -s {self.path('outside')} project\n" for name, variable in (("a", "CI_JOB_ARTIFACTS: secret.txt"),
+                                                                                      ("b", '"CI_JOB_CACHE": "k\\tpull-push\\tsecret.txt"')))
+        self.ended(file + "c:\n  script: test ! -e secret.txt\n")
+        self.assert_line(self.project.trace(1, "a"), "the runner failed: the project's folder is a link")
+        self.assert_line(self.project.trace(1, "b"), "cache k isn't kept: the project's folder is a link")
+        self.assertEqual(glob.glob(self.path("one/cache/1/*")), [])
+        self.assertEqual(self.read("outside/secret.txt"), "secret\n")
+
+    def test_a_cache_that_cant_be_laid_goes(self) -> None:
+        file = "a:\n  variables:\n    CI_JOB_CACHE: \"k\\tpull-push\\tdeps\"\n  script: mkdir -p deps; echo > deps/x\n"
+        self.ended(file)
+        cache, = glob.glob(self.path("one/cache/1/*.tar"))
+        with open(cache, "wb") as damaged:
+            damaged.write(b"damaged" * 1_000)
+        self.assertEqual(self.project.ends(self.project.pipeline(file)), "success")
+        self.assert_line(self.project.trace(2, "a"), "cache k isn't laid, and goes: .* can't be read: .*")
+        self.assert_line(self.project.trace(2, "a"), "cache k: kept")
+        self.write("work/deps", "now it is a file\n")
+        self.commit("a file")
+        self.assertEqual(self.project.ends(self.project.pipeline(file.replace("mkdir -p deps; echo > deps/x", "cat deps"))), "success")
+        self.assert_line(self.project.trace(3, "a"), "cache k isn't laid, and goes: deps is to be a folder, and is something else")
+        self.assertEqual(self.project.ends(self.project.pipeline(file.replace("mkdir -p deps; echo > deps/x", "cat deps"))), "success")
+        self.assert_line(self.project.trace(4, "a"), "cache k: 1 file")
+
+    def test_records_that_cant_be_read_play_no_part(self) -> None:
+        self.write("one/artifacts/1/1/9.json", '{"attempt": 9}')
+        self.ended("a:\n  script: echo\n")
+        self.assertEqual(self.project.ends(self.project.pipeline("a:\n  script: echo\n")), "success")
+        self.assertNotIn("Traceback", self.read("one.log"))
+
     def test_cache(self) -> None:
         file = """\
             a:

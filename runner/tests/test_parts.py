@@ -1,5 +1,6 @@
 """Parts of the runner by themselves."""
 import glob
+import json
 import os
 import random
 import shlex
@@ -93,9 +94,19 @@ class Patterns(unittest.TestCase):
         for pattern, wanted in (("*.txt", ["a.txt"]), ("**/*.txt", ["a.txt", "b/a.txt", "b/c/a.txt"]), ("b/*", ["b/a.txt"]),
                                 ("b/**", ["b/a.txt", "b/c/a.txt", "b/c/x.o"]),
                                 ("?.{txt,log}", ["a.txt", "d.log"]), ("[ab].txt", ["a.txt"]), ("[!a].log", ["d.log"]), ("*/f", [".hidden/f"]),
-                                ("[[]x]", ["[x]"]), ("a,b", ["a,b"]), ("b/**/x.o", ["b/c/x.o"])):
+                                ("[[]x]", ["[x]"]), ("a,b", ["a,b"]), ("b/**/x.o", ["b/c/x.o"]), ("{b/{a,z},d}.{txt,log}", ["b/a.txt", "d.log"]),
+                                ("**a*t", ["a.txt", "b/a.txt", "b/c/a.txt"]), ("**/c/*.*", ["b/c/a.txt", "b/c/x.o"]), ("*b/**/*a*", ["b/a.txt", "b/c/a.txt"])):
             looked = pack.compiled(pattern)
             self.assertEqual([name for name in names if looked.fullmatch(name)], wanted, pattern)
+
+    def test_no_name_takes_long(self) -> None:
+        begun = time.process_time()
+        for pattern in ("*a" * 20 + "*b", "**/" * 20 + "b", "**a" * 20 + "b", "{**,*a}" * 6 + "b"):
+            self.assertFalse(pack.compiled(pattern).fullmatch("/".join("a" * 500)), pattern)
+            self.assertTrue(pack.compiled(pattern).fullmatch("a" * 250 + "b") or pattern.startswith("**/"), pattern)
+        self.assertRaises(Refused, pack.compiled, "{a,b}" * 20)
+        self.assertRaises(Refused, pack.compiled, "{a,b")
+        self.assertLess(time.process_time() - begun, 5)
 
     def test_paths_outside_are_refused(self) -> None:
         self.assertEqual(pack.normal("./a//b/", "/r"), "a/b")
@@ -109,7 +120,8 @@ class Patterns(unittest.TestCase):
                 os.makedirs(os.path.dirname(os.path.join(root, name)), exist_ok=True)
                 open(os.path.join(root, name), "w", encoding="utf-8").close()
             os.mkfifo(os.path.join(root, "pipe"))
-            names = pack.matching(root, ["."], [])
+            self.assertEqual(pack.matching(root, [".git/config", ".git/*"], [], lambda: None), [])
+            names = pack.matching(root, ["."], [], lambda: None)
             self.assertEqual(names, ["a", "a/.git", "a/.git/config", "a/b", "pipe"])
             pack.pack(root, names, root + "/x.tar", 10, lambda: None)
             self.assertEqual(run("tar", "-tf", root + "/x.tar").splitlines(), ["a/", "a/.git/", "a/.git/config", "a/b"])
@@ -197,12 +209,26 @@ class Room(unittest.TestCase):
     def test_expired_artifacts_go(self) -> None:
         with tempfile.TemporaryDirectory() as root:
             for place, left in (("1/1/1", -1), ("1/1/2", 60), ("1/2/3", -1), ("2/9/4", 60)):
-                self.write(f"{root}/{place}.json", f'{{"expires": {time.time() + left}}}')
+                record = {"job": "a", "stage": "test", "attempt": int(place[-1]), "kept": True, "expires": time.time() + left}
+                self.write(f"{root}/{place}.json", json.dumps(record))
                 self.write(f"{root}/{place}.tar")
+            for name, text in (("6", "{}"), ("7", "[]"), ("8", '{"expires": 1e99}')):
+                self.write(f"{root}/1/1/{name}.json", text)
             store.remove_expired(root)
             found = sorted(os.path.relpath(path, root) for path in glob.glob(f"{root}/*/*/*"))
             self.assertEqual(found, ["1/1/2.json", "1/1/2.tar", "2/9/4.json", "2/9/4.tar"])
             self.assertEqual(sorted(os.listdir(f"{root}/1")), ["1"])
+
+    def test_what_killed_runners_left_goes_after_a_day(self) -> None:
+        with tempfile.TemporaryDirectory() as root:
+            for name in ("a/1/1/2.tar", "a/1/1/2.new", "a/1/1/3.tar.3.new", "c/1/ab.tar.4.new"):
+                self.write(f"{root}/{name}")
+                self.write(f"{root}/{name.replace('/1/', '/9/', 1)}")
+                os.utime(f"{root}/{name}", (time.time() - 90_000,) * 2)
+            store.remove_expired(root + "/a")
+            store.make_room(root + "/c", 1)
+            found = sorted(os.path.relpath(path, root) for path in glob.glob(f"{root}/**", recursive=True) if os.path.isfile(path))
+            self.assertEqual(found, ["a/9/1/2.new", "a/9/1/2.tar", "a/9/1/3.tar.3.new", "c/9/ab.tar.4.new"])
 
     def test_caches_that_were_used_longest_ago_go(self) -> None:
         with tempfile.TemporaryDirectory() as root:
@@ -211,6 +237,13 @@ class Room(unittest.TestCase):
                 os.utime(f"{root}/{name}.tar", (used, used))
             store.make_room(root, 25)
             self.assertEqual(sorted(glob.glob(f"{root}/*/*")), [f"{root}/1/a.tar", f"{root}/2/c.tar"])
+
+    def test_folders_however_deep_are_removed(self) -> None:
+        root = tempfile.mkdtemp()
+        code = "import os, sys; os.chdir(sys.argv[1]); [(os.mkdir('d'), os.chdir('d')) for _ in range(3_000)]"
+        subprocess.run([sys.executable, "-c", code, root], check=True)
+        store.remove_tree(root)
+        self.assertFalse(os.path.lexists(root))
 
     def test_folders_that_may_not_be_written_are_removed(self) -> None:
         root = tempfile.mkdtemp()
