@@ -3,6 +3,7 @@ from __future__ import annotations
 
 import http.client
 import json
+import re
 import socket
 import ssl
 import urllib.parse
@@ -55,7 +56,8 @@ class Api:
         finally:
             connection.close()
         # A proxy speaks for a server that isn't there in words of its own, and M16 and M17 leave open what became of the request.
-        if answer.code in ("M16", "M17") or not (200 <= answer.status < 300 or answer.code):
+        taken = 200 <= answer.status < 300 and (answer.job_status or method == "POST")
+        if answer.code in ("M16", "M17") or not (taken or answer.code):
             raise Unanswered(f"{self.host} answers {answer.status} {answer.code}".rstrip())
         return answer
 
@@ -76,6 +78,8 @@ def _answer(reply: http.client.HTTPResponse, body: bytes) -> Answer:
             code = str(json.loads(body)["code"])
         except (ValueError, KeyError, TypeError):
             pass
+        if not re.fullmatch(r"[HM]\d+", code):
+            code = ""
     size = reply.headers.get("Range", "").removeprefix("0-")
     return Answer(reply.status, code, reply.headers.get("Job-Status", ""), int(size) if size.isdigit() else 0, body)
 

@@ -152,7 +152,11 @@ class Job:
 
     def serve(self) -> None:
         """Has the job run, and tells the server of it until it has ended there."""
-        threading.Thread(target=self.work, daemon=True).start()
+        try:
+            threading.Thread(target=self.work, daemon=True).start()
+        except RuntimeError as fault:  # the machine has no room for it
+            self.trace.line(f"the runner failed: {fault}")
+            self.worked.set()
         try:
             while not self.worked.wait(0 if self._speak() else 0.3):
                 self.watch()
@@ -211,6 +215,7 @@ class Job:
         begun = now()
         answer = call(max(1, min(CALL, self.lease - begun)) if begun < self.lease else CALL)
         if answer.status in (200, 202) and answer.job_status != "canceled":
+            self.watch()  # what was to end by the lease as it was ends, though it is renewed
             with self.lock:
                 self.heard, self.lease = begun, begun + HELD
                 if self.command:

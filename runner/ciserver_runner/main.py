@@ -41,10 +41,15 @@ class Runner:
         except (KeyError, TypeError, ValueError) as fault:
             say(f"a grant can't be read: {type(fault).__name__} {fault}")
             return
-        self.jobs[place] = job
-        if self.ended_at is not None:
-            job.stop("end")
-        threading.Thread(target=self._serve, args=(job, place), daemon=True).start()
+        with self.changed:
+            self.jobs[place] = job
+            if self.ended_at is not None:
+                job.stop("end")
+        try:
+            threading.Thread(target=self._serve, args=(job, place), daemon=True).start()
+        except RuntimeError:
+            self.jobs[place] = None
+            raise
 
     def _serve(self, job: Job, place: int) -> None:
         try:
@@ -63,7 +68,7 @@ class Runner:
             try:
                 pause = self._asked(place, pause)
                 self._sweep()
-            except (Unanswered, OSError) as fault:
+            except (Unanswered, OSError, RuntimeError) as fault:  # the last one where the machine has no room for a thread
                 say(str(fault))
                 pause = self._wait(pause)
 
@@ -110,12 +115,11 @@ class Runner:
         """SIGQUIT: no more jobs are taken. SIGTERM, SIGINT: besides, those that run end."""
         with self.changed:
             self.draining = True
-            jobs = [job for job in self.jobs.values() if job]
             self.changed.notify_all()
-        if number != signal.SIGQUIT and self.ended_at is None:
-            self.ended_at = now()
-            for job in jobs:
-                job.stop("end")
+            if number != signal.SIGQUIT and self.ended_at is None:
+                self.ended_at = now()
+                for job in filter(None, self.jobs.values()):
+                    job.stop("end")
 
     def run(self) -> None:
         told: list[int] = []

@@ -22,9 +22,11 @@ class Leases(Case):
         self.tokens = [self.server.runner(), self.server.runner()]
         self.server.start()
 
-    def begin_long_job(self, more: str = ""):
-        """Has the first runner run a job that doesn't end by itself."""
+    def begin_long_job(self, more: str = "", port: int = 0):
+        """Has the first runner run a job that doesn't end by itself. It may find the server at another port."""
+        real, self.server.port = self.server.port, port or self.server.port
         runner = self.begin_runner(self.tokens[0])
+        self.server.port = real
         self.project.pipeline(f"long:\n{more}  script:\n" + MARKS.format(self.room))
         until(lambda: self.lines("marks"))
         return runner
@@ -179,6 +181,21 @@ class Leases(Case):
         self.assertGreater(proxy.lost, 3)
 
 
+    def test_a_job_that_was_told_to_end_by_its_lease_is_told_so(self) -> None:
+        proxy = SlowProxy(self.server.port)
+        self.addCleanup(proxy.close)
+        self.begin_long_job(port=proxy.port)
+        proxy.goes_on.clear()
+        self.put_on(100)
+        until(lambda: "1 told" in self.lines("marks") or (self.put_on(5), False)[1])
+        proxy.goes_on.set()  # the lease is renewed while the job has its last ten seconds
+        time.sleep(2)
+        self.put_on(15)
+        self.assertEqual(self.project.ends(1), "failed")
+        self.assertTrue(self.project.trace(1, "long").endswith("\nended: the server wasn't heard for two minutes\n"))
+        self.assertEqual(self.cause(), ["2|3"])
+
+
 class LossyProxy:
     """Hands requests on to a server, and every second reply to what is said of an attempt to nobody."""
 
@@ -204,11 +221,14 @@ class LossyProxy:
                     reply = b""
                     while data := server.recv(65_536):
                         reply += data
-                self.count += 1
-                if self.count % 2 and b"/jobs/request" not in request.partition(b"\r\n")[0]:
-                    self.lost += 1
-                else:
+                if self.is_to_come(request):
                     peer.sendall(reply)
+
+    def is_to_come(self, request: bytes) -> bool:
+        self.count += 1
+        lost = bool(self.count % 2) and b"/jobs/request" not in request.partition(b"\r\n")[0]
+        self.lost += lost
+        return not lost
 
     @staticmethod
     def request(peer: socket.socket) -> bytes:
@@ -220,6 +240,18 @@ class LossyProxy:
         while len(body) < length:
             body += peer.recv(65_536)
         return head + b"\r\n\r\n" + body
+
+
+class SlowProxy(LossyProxy):
+    """Hands requests on to a server, and each reply when it may go on."""
+
+    def __init__(self, server: int):
+        self.goes_on = threading.Event()
+        self.goes_on.set()
+        super().__init__(server)
+
+    def is_to_come(self, request: bytes) -> bool:
+        return self.goes_on.wait(25)
 
 
 if __name__ == "__main__":

@@ -1,5 +1,6 @@
 """Parts of the runner by themselves."""
 import glob
+import http.server
 import json
 import os
 import random
@@ -8,14 +9,16 @@ import shutil
 import subprocess
 import sys
 import tempfile
+import threading
 import time
 import unittest
+from unittest import mock
 
 from support import RUNNER, run
 
 sys.path.insert(0, os.path.dirname(RUNNER))
 
-from ciserver_runner import config, git, pack, script, store, where  # noqa: E402
+from ciserver_runner import api, config, git, main, pack, script, store, where  # noqa: E402
 from ciserver_runner.refused import Refused  # noqa: E402
 from ciserver_runner.trace import HEAD, LIMIT, TAIL, Mask, Trace, values_to_mask  # noqa: E402
 
@@ -146,6 +149,46 @@ class Texts(unittest.TestCase):
     def test_names_of_services(self) -> None:
         self.assertEqual(where.aliases_of("postgres:15"), ["postgres"])
         self.assertEqual(where.aliases_of("host:5000/group/db:1@sha256:ab"), ["host5000-group-db", "host5000__group__db"])
+
+
+class Answers(http.server.BaseHTTPRequestHandler):
+    """Answers a request by what its path says: STATUS/BODY."""
+
+    def do_PUT(self) -> None:
+        status, body = self.path.removesuffix("/api/v4/jobs/1")[1:].split("/")
+        self.send_response(int(status))
+        self.send_header("Content-Length", str(len(body)))
+        self.end_headers()
+        self.wfile.write(body.encode())
+
+    def log_message(self, *_: object) -> None:
+        pass
+
+
+class Calls(unittest.TestCase):
+    def test_what_a_proxy_says_is_no_answer(self) -> None:
+        with http.server.HTTPServer(("127.0.0.1", 0), Answers) as server:
+            threading.Thread(target=server.serve_forever, daemon=True).start()
+            for text in ("502/bad", '503/{"code":503}', "200/maintenance", '403/{"code":"blocked"}', "301/moved", '503/{"code":"M17"}'):
+                with self.assertRaises(api.Unanswered, msg=text):
+                    api.Api(f"http://127.0.0.1:{server.server_port}/{text}").put_state(1, "j1-ab", {"state": "running"}, 10)
+            made = api.Api(f'http://127.0.0.1:{server.server_port}/403/{{"code":"M7"}}').put_state(1, "j1-ab", {"state": "running"}, 10)
+            self.assertEqual((made.status, made.code), (403, "M7"))
+            server.shutdown()
+
+    def test_a_machine_without_room_for_a_thread(self) -> None:
+        runner = main.Runner(config.from_table(Configurations.GOOD))
+        grant = {"id": 1, "token": "j1-ab", "timeout": 60, "job_info": {"name": "a", "stage": "test", "project_id": 1}, "script": [], "variables": []}
+        answers = [api.Answer(201, "", "", 0, json.dumps(grant).encode()), api.Answer(204, "", "", 0, b"")]
+
+        def answer(_: str) -> api.Answer:
+            runner.draining = len(answers) == 1
+            return answers.pop(0)
+
+        runner.api.request_job = answer
+        with mock.patch.object(threading.Thread, "start", side_effect=RuntimeError("can't start new thread")):
+            runner.ask()
+        self.assertEqual((answers, runner.jobs), ([], {0: None}))
 
 
 class Configurations(unittest.TestCase):
