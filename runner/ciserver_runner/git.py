@@ -9,6 +9,7 @@ import subprocess
 import urllib.parse
 from typing import TYPE_CHECKING
 
+from . import store
 from .config import Project
 from .refused import Refused
 
@@ -47,30 +48,64 @@ def lay(job: Job, project: Project) -> None:
 
 def _fetched(job: Job, project: Project, kept: str) -> str:
     """The commit of a job's pipeline, which the kept clone has then."""
-    if not os.path.exists(os.path.join(kept, "HEAD")):
-        _run(job, ["init", "--quiet", "--bare", kept])
     wanted = job.variables.get("CI_COMMIT_SHA", "")
     if wanted and not re.fullmatch(COMMIT, wanted):
         raise Refused("CI_COMMIT_SHA is no full number of a commit")
-    fetch = ["--git-dir", kept, "-c", "gc.autoDetach=false", "fetch", "--quiet", "--force", project.repository]
-    for left in reversed(range(TRIES)):
-        code = job.run(["git", *fetch, "--prune", "+refs/heads/*:refs/heads/*", "+refs/tags/*:refs/tags/*"], _environment(project))
-        if code == 0:
-            break
+    _remove_locks(kept)
+    left = TRIES
+    while not _fetch(job, project, kept):
+        left -= 1
         if not left:
-            raise Refused(f"{project.repository} can't be fetched")
+            _make_anew(job, project, kept)
+            break
         job.pause(2)
-    if wanted:
-        if _asked(kept, "cat-file", "-t", wanted) != "commit":
-            job.run(["git", *fetch, wanted], _environment(project))  # no branch leads to it any more
-        if _asked(kept, "cat-file", "-t", wanted) != "commit":
-            raise Refused(f"commit {wanted} isn't in {project.repository}")
-        return wanted
-    name, shown = _ref(job)
-    commit = _asked(kept, "rev-parse", "--verify", "--quiet", "--end-of-options", f"{name}^{{commit}}")
+    commit = _found(job, project, kept, wanted)
+    if not commit and job.run(["git", "--git-dir", kept, "fsck", "--connectivity-only", "--no-dangling"], _environment(project), lambda _: None) != 0:
+        _make_anew(job, project, kept)
+        commit = _found(job, project, kept, wanted)
     if not re.fullmatch(COMMIT, commit):
-        raise Refused(f"{shown} isn't in {project.repository}")
+        raise Refused(f"{f'commit {wanted}' if wanted else _ref(job)[1]} isn't in {project.repository}")
     return commit
+
+
+def _fetch(job: Job, project: Project, clone: str, *refs: str) -> bool:
+    """Fetches refs into a clone, or else all branches and tags. Answers whether that went well."""
+    if not os.path.exists(os.path.join(clone, "HEAD")):
+        _run(job, ["init", "--quiet", "--bare", clone])
+    fetch = ["git", "--git-dir", clone, "-c", "gc.autoDetach=false", "fetch", "--quiet", "--force"]
+    words = [project.repository, *refs] if refs else ["--prune", project.repository, "+refs/heads/*:refs/heads/*", "+refs/tags/*:refs/tags/*"]
+    return job.run([*fetch, *words], _environment(project)) == 0
+
+
+def _remove_locks(kept: str) -> None:
+    """Removes what a git that was killed left in a kept clone, which one job at a time changes: each fetch would fail by it."""
+    for folder, _, names in os.walk(kept):
+        for name in names:
+            if name.endswith(".lock"):
+                os.unlink(os.path.join(folder, name))
+
+
+def _make_anew(job: Job, project: Project, kept: str) -> None:
+    """Puts a new clone in place of a kept one, which may be damaged. Where the repository can't be fetched that stays."""
+    new = kept + ".new"
+    store.remove_tree(new)
+    try:
+        if not _fetch(job, project, new):
+            raise Refused(f"{project.repository} can't be fetched")
+        store.remove_tree(kept)
+        os.rename(new, kept)
+    finally:
+        store.remove_tree(new)
+
+
+def _found(job: Job, project: Project, kept: str, wanted: str) -> str:
+    """The commit of a job's pipeline in a kept clone; nothing where it isn't there."""
+    if not wanted:
+        tip = _asked(kept, "show-ref", "--verify", "--hash", _ref(job)[0])
+        return _asked(kept, "rev-parse", "--verify", "--quiet", f"{tip}^{{commit}}") if tip else ""
+    if _asked(kept, "cat-file", "-t", wanted) != "commit":
+        _fetch(job, project, kept, wanted)  # no branch leads to it any more
+    return wanted if _asked(kept, "cat-file", "-t", wanted) == "commit" else ""
 
 
 def _ref(job: Job) -> tuple[str, str]:

@@ -110,6 +110,34 @@ class Programs(Case):
         self.assertEqual(folders, {0o755})
         self.assertEqual({mode & 0o7044 for mode in files}, {0o044})
 
+    def test_a_kept_clone_that_was_damaged(self) -> None:
+        file = "a:\n  script: cat hello.txt; git log --oneline\n"
+        self.begin_runner(self.token)
+        self.assertEqual(self.project.ends(self.project.pipeline(file)), "success")
+        kept = os.path.join(self.path("one"), "repositories", "1.git")
+        for name in ("packed-refs.lock", "refs/heads/main.lock"):  # as a git leaves them that is killed
+            self.write(f"one/repositories/1.git/{name}", "")
+        self.commit("second")
+        self.assertEqual(self.project.ends(self.project.pipeline(file)), "success", self.project.trace(2, "a"))
+        for more in ("third", ""):  # files that hold nothing, as after a loss of power
+            for folder, _, names in os.walk(os.path.join(kept, "objects")):
+                for name in names:
+                    os.chmod(os.path.join(folder, name), 0o644)
+                    os.truncate(os.path.join(folder, name), 0)
+            commit = self.commit(more) if more else self.git("rev-parse", "HEAD")
+            number = self.project.pipeline(file)
+            self.assertEqual(self.project.ends(number), "success", self.project.trace(number, "a"))
+            self.assert_line(self.project.trace(number, "a"), f"{commit[:7]} third")
+        self.assertEqual(sorted(os.listdir(os.path.dirname(kept))), ["1.git", "1.git.lock"])
+
+    def test_a_name_that_no_branch_has(self) -> None:
+        self.commit("second")
+        self.begin_runner(self.token)
+        for ref in ("main~1", "main^{tree}", "main@{0}"):
+            number = self.project.pipeline("a:\n  script: echo\n", ref)
+            self.assertEqual(self.project.ends(number), "failed")
+            self.assertIn(f"the runner failed: branch {ref} isn't in {self.work}", self.project.trace(number, "a"))
+
     def test_a_folder_has_one_runner(self) -> None:
         first = self.begin_runner(self.token)
         until(lambda: "asks" in self.read("one.log"))
