@@ -8,7 +8,11 @@ DEEPEST = 10
 
 # The script comes on standard input: its values are in no file, and on no command line that others see.
 READ_ALL = 'eval "$(cat)"'
-IN_BASH_OR_SH = f"if command -v bash > /dev/null; then exec bash -c {shlex.quote(READ_ALL)}; fi; {READ_ALL}"
+
+
+def in_bash_or_sh(began: str) -> str:
+    """Has bash read it where there is one, and makes a file first: it tells that a shell began."""
+    return f"(: > {shlex.quote(began)}) 2> /dev/null; if command -v bash > /dev/null; then exec bash -c {shlex.quote(READ_ALL)}; fi; {READ_ALL}"
 
 
 def text_of(variables: dict[str, str], lines: list[str]) -> bytes:

@@ -10,13 +10,14 @@ from typing import TYPE_CHECKING
 
 from .config import Config
 from .git import clone_of
-from .refused import Refused, Stopped
-from .script import IN_BASH_OR_SH, READ_ALL, text_of
+from .refused import Refused
+from .script import READ_ALL, in_bash_or_sh, text_of
 
 if TYPE_CHECKING:
     from .job import Job
 
 LABEL = "ciserver-runner"
+FAILED = (125, 126, 127)  # an engine ends so where it can't make a container, or begin what it is to run
 
 
 def run_script(job: Job) -> int:
@@ -58,11 +59,15 @@ def _in_container(job: Job, image: str) -> int:
                  "--volume", f"{job.room}:{job.room}", "--entrypoint", "sh", *(["--network", network] if network else [])]
         if os.path.isdir(clone_of(job)):
             words += ["--volume", f"{clone_of(job)}:{clone_of(job)}:ro"]
-        words += [*job.config.options, image, "-c", IN_BASH_OR_SH]
+        began = os.path.join(job.room, "began")
+        words += [*job.config.options, image, "-c", in_bash_or_sh(began)]
         # Git refuses a folder of another user, as it may be for a container's.
         trusted = {"GIT_CONFIG_COUNT": "1", "GIT_CONFIG_KEY_0": "safe.directory", "GIT_CONFIG_VALUE_0": "*"}
-        return job.run(words, dict(os.environ), stdin=text_of(trusted | job.variables, job.script), after=after)
-    except Stopped:  # it may not have begun
+        code = job.run(words, dict(os.environ), stdin=text_of(trusted | job.variables, job.script), after=after)
+        if code in FAILED and not os.path.lexists(began):
+            raise Refused(f"no shell began in a container of {image}: {engine} ended with {code}")
+        return code
+    except BaseException:  # it may not have begun
         for command in after:
             _quiet(command)
         raise

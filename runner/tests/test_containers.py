@@ -18,6 +18,9 @@ import json, os, sys
 words = sys.argv[1:]
 with open("{room}/words", "a") as file:
     file.write(json.dumps(words) + "\\n")
+if "absent:1" in words:
+    print("no such image")
+    sys.exit(125)
 if words[0] == "run" and "--detach" not in words:
     os.chdir(words[words.index("--workdir") + 1])
     entry = words[words.index("--entrypoint") + 1]
@@ -92,6 +95,17 @@ class StandIn(Case):
         self.project.pipeline("a:\n  script: echo\n")
         self.assertEqual(self.project.ends(1), "failed")
         self.assert_line(self.project.trace(1, "a"), "the runner failed: the job names no image, and the runner's configuration has none")
+
+    def test_image_that_isnt_there(self) -> None:
+        self.begin()
+        job = "  allow_failure: true\n  variables:\n    CI_JOB_IMAGE: "
+        self.project.pipeline(f"a:\n{job}absent:1\n  script: echo\nb:\n{job}debian:12\n  script: exit 125\n")
+        self.assertEqual(self.project.ends(1), "success")
+        self.assertRegex(self.project.trace(1, "a"), "\nno such image\nthe runner failed: no shell began in a container of absent:1: podman ended with 125\n")
+        self.assert_line(self.project.trace(1, "b"), "ended: exit code 125")
+        self.assertIn("rm", [words[0] for words in self.words()])
+        self.server.kill()
+        self.assertEqual(self.server.rows("SELECT cause, exit FROM attempt ORDER BY job"), ["4|", "1|125"])
 
     def test_image_without_containers(self) -> None:
         self.begin(top="")
