@@ -54,6 +54,25 @@ class Push(Case):
         self.assertIn("K2 image", said)
         self.assertRaises(AssertionError, self.project.shown, 2)
 
+    def test_the_file_is_the_commits_own(self) -> None:
+        self.write("work/.gitlab-ci.yml", FILE.format("main"))
+        self.write("work/.gitattributes", ".gitlab-ci.yml export-ignore\n")
+        self.commit("a file that no archive has")
+        self.assertEqual(self.pushed("main"), "ciserver: pipeline 1 of main")
+        self.assertEqual(self.project.shown(1)["jobs"][0]["name"], "job-of-main")
+        os.unlink(self.path("work/.gitlab-ci.yml"))
+        os.symlink(self.write("elsewhere", FILE.format("elsewhere")), self.path("work/.gitlab-ci.yml"))
+        self.commit("a link that leads elsewhere")
+        self.assertIn("ciserver: no pipeline of main: ", self.pushed("main"))
+
+    def test_a_lock_file_of_another_user_is_in_nobodys_way(self) -> None:
+        os.mkdir(os.path.join(self.bare, "ciserver.lock"))
+        self.write("work/.gitlab-ci.yml", FILE.format("main"))
+        self.commit("file")
+        said = self.git_says("push", self.bare, "main")
+        self.assertIn("ciserver: pipeline 1 of main", said)
+        self.assertNotIn("ciserver.lock", said)
+
     def test_pushes_at_once_keep_their_files(self) -> None:
         for number in range(4):
             self.git("checkout", "--quiet", "-B", f"b{number}", "main")
