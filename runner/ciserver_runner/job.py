@@ -3,7 +3,6 @@ from __future__ import annotations
 
 import os
 import re
-import sys
 import threading
 import time
 from typing import TYPE_CHECKING, Callable
@@ -36,7 +35,11 @@ TOLD = {
 
 
 def say(text: str) -> None:
-    print(text, file=sys.stderr, flush=True)
+    """Says it on standard error. Where that can't be, as on a full disk, the runner goes on."""
+    try:
+        os.write(2, f"{text}\n".encode(errors="backslashreplace"))
+    except OSError:
+        pass
 
 
 class Job:
@@ -105,7 +108,7 @@ class Job:
         config = self.config
         self.trace.line(f"runner {config.number} ({config.name}), attempt {self.attempt}: {self.name}")
         for name in self.masked:
-            if name in self.granted and len(self.granted[name].encode()) < LEAST_MASKED:
+            if name in self.granted and not values_to_mask([self.granted[name]]):
                 self.trace.line(f"{name} isn't masked: it has under {LEAST_MASKED} bytes")
         if self.project not in config.projects:
             raise Refused(f"its configuration has no repository for project {self.project}")

@@ -5,7 +5,6 @@ import fcntl
 import json
 import os
 import signal
-import sys
 import threading
 import time
 
@@ -153,7 +152,7 @@ def main(words: list[str]) -> int:
         config = from_words(words)
         lock = _locked(config.folder)
     except (Fault, OSError) as fault:
-        print(f"ciserver-runner: {fault}", file=sys.stderr)
+        say(f"ciserver-runner: {fault}")
         return 2
     with lock:
         where.remove_left(config)

@@ -4,7 +4,10 @@ from __future__ import annotations
 import re
 import shlex
 
+from .refused import Refused
+
 DEEPEST = 10
+LONGEST = 1_000_000
 
 # The script comes on standard input: its values are in no file, and on no command line that others see.
 READ_ALL = 'eval "$(cat)"'
@@ -24,16 +27,25 @@ def text_of(variables: dict[str, str], lines: list[str]) -> bytes:
     return "\n".join(text).encode(errors="replace") + b"\n"
 
 
-def expanded(text: str, variables: dict[str, str], within: tuple[str, ...] = ()) -> str:
+def expanded(text: str, variables: dict[str, str]) -> str:
     """A text with the values of the variables that it names, as $NAME or ${NAME}, and what these name, ten deep; `$$` is a dollar."""
-    def value(match: re.Match) -> str:
-        name = match[1] or match[2]
-        if match[0] == "$$":
-            return "$"
-        if name in within or len(within) == DEEPEST:
-            return match[0]
-        return expanded(variables.get(name, ""), variables, (*within, name))
-    return re.sub(r"\$(?:\$|([A-Za-z_]\w*)|\{([A-Za-z_]\w*)\})", value, text, flags=re.ASCII)
+    count = 0
+
+    def put_in(part: str, within: tuple[str, ...]) -> str:
+        def value(match: re.Match) -> str:
+            nonlocal count
+            name = match[1] or match[2]
+            count += 1 + len(variables.get(name, ""))
+            if count > LONGEST:
+                raise Refused(f"a value is too long with those of the variables that it names: {text[:40]!r}")
+            if match[0] == "$$":
+                return "$"
+            if name in within or len(within) == DEEPEST:
+                return match[0]
+            return put_in(variables.get(name, ""), (*within, name))
+        return re.sub(r"\$(?:\$|([A-Za-z_]\w*)|\{([A-Za-z_]\w*)\})", value, part, flags=re.ASCII)
+
+    return put_in(text, ())
 
 
 def _quoted(text: str) -> str:

@@ -160,6 +160,13 @@ class Programs(Case):
             process.send_signal(signal.SIGTERM)
             self.assertEqual(process.wait(40), 0)
 
+    def test_a_full_disk_below_standard_error(self) -> None:
+        os.symlink("/dev/full", self.path("one.log"))
+        runner = self.begin_runner(self.token)
+        self.assertEqual(self.project.ends(self.project.pipeline("a:\n  script: echo\n")), "success")
+        runner.send_signal(signal.SIGTERM)
+        self.assertEqual(runner.wait(40), 0)
+
     def test_polls_slow_down(self) -> None:
         self.server.kill()
         self.server.process = self.counting(5)

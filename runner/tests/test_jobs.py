@@ -157,7 +157,7 @@ class Jobs(Case):
     def test_masked_values(self) -> None:
         number, status = self.ended(
             "build:\n  script:\n    - printf 'a%s%s' \"$KEY\" sec; sleep 1.5; echo ret-of-job\n    - echo \"$KEY2\" $SHORT \"$LINES_OF_KEY\"\n",
-            variables={"KEY": "key-of-job", "KEY2": "secret-of-job", "SHORT": "ab", "CI_MASKED": "KEY2, SHORT LINES_OF_KEY",
+            variables={"KEY": "key-of-job", "KEY2": "secret-of-job", "SHORT": "ab   ", "CI_MASKED": "KEY2, SHORT LINES_OF_KEY",
                        "LINES_OF_KEY": "first line\nsecond line"},
             top='masked = ["KEY"]')
         trace = self.project.trace(number, "build")

@@ -136,6 +136,12 @@ class Texts(unittest.TestCase):
         for text, wanted in (("$A", "1"), ("${A}b$$A", "1b$A"), ("$NONE/$E/x$", "//x$"), ("$B", "1-<$B>"), ("${A", "${A")):
             self.assertEqual(script.expanded(text, values), wanted)
 
+    def test_variables_that_name_very_many(self) -> None:
+        values = {chr(65 + place): f"${chr(66 + place)}" * 100 for place in range(9)} | {"LONG": "x" * 60_000}
+        self.assertRaises(Refused, script.expanded, "$A", values)
+        self.assertRaises(Refused, script.expanded, "$LONG" * 20, values)
+        self.assertEqual(len(script.expanded("$LONG" * 10, values)), 600_000)
+
     def test_the_script_in_each_shell(self) -> None:
         values = {"A": "it's\n$HOME `x` \\", "PATH2": "", "PPID": "1", "UID": "x", "IFS": "a"}
         text = script.text_of(values, ["printf '<%s>' \"$A\"", "x=1; y=2", "echo $x$y; cat", "false | true", "exit 7", "echo no"])
