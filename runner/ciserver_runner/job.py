@@ -155,6 +155,8 @@ class Job:
 
     def serve(self) -> None:
         """Has the job run, and tells the server of it until it has ended there."""
+        if now() - self.heard >= HEARTBEAT:  # the grant came late: its lease is asked for before anything runs
+            self._say_running()
         try:
             threading.Thread(target=self.work, daemon=True).start()
         except RuntimeError as fault:  # the machine has no room for it
@@ -197,12 +199,22 @@ class Job:
             if piece and (len(piece) == PIECE or now() - self.heard >= 1):
                 self._send(piece)
                 return len(piece) == PIECE
-            if not self.over and now() - self.heard >= HEARTBEAT:
-                self._call(lambda seconds: self.api.put_state(self.attempt, self.token, {"state": "running"}, seconds))
         except Unanswered as fault:
-            say(f"attempt {self.attempt}: {fault}")
-            time.sleep(0.5)
+            self._say_unanswered(fault)
+            return False
+        if not self.over and now() - self.heard >= HEARTBEAT:
+            self._say_running()
         return False
+
+    def _say_running(self) -> None:
+        try:
+            self._call(lambda seconds: self.api.put_state(self.attempt, self.token, {"state": "running"}, seconds))
+        except Unanswered as fault:
+            self._say_unanswered(fault)
+
+    def _say_unanswered(self, fault: Unanswered) -> None:
+        say(f"attempt {self.attempt}: {fault}")
+        time.sleep(0.5)
 
     def _send(self, piece: bytes) -> None:
         answer = self._call(lambda seconds: self.api.send_piece(self.attempt, self.token, self.sent, piece, seconds))
@@ -218,7 +230,8 @@ class Job:
         begun = now()
         answer = call(max(1, min(CALL, self.lease - begun)) if begun < self.lease else CALL)
         if answer.status in (200, 202) and answer.job_status != "canceled":
-            self.watch()  # what was to end by the lease as it was ends, though it is renewed
+            if self.command:
+                self.watch()  # what was to end by the lease as it was ends, though it is renewed
             with self.lock:
                 self.heard, self.lease = begun, begun + HELD
                 if self.command:

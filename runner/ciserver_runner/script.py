@@ -19,8 +19,10 @@ def in_bash_or_sh(began: str) -> str:
 
 
 def text_of(variables: dict[str, str], lines: list[str]) -> bytes:
-    """Exports the variables, but for those that are the shell's own, and runs the lines until one fails; each is printed before it runs."""
-    text = [f"command export {name}={_quoted(value)} 2> /dev/null || :" for name, value in variables.items()]
+    """Exports the variables, but for those that are the shell's own, and runs the lines until one fails; each is printed before it runs. Who opens
+    standard input again finds nothing of all this."""
+    text = ["exec < /dev/null"]
+    text += [f"command export {name}={_quoted(value)} 2> /dev/null || :" for name, value in variables.items()]
     text += ["set -e", "if (set -o pipefail) 2> /dev/null; then set -o pipefail; fi"]
     for line in lines:
         text += [f"printf '$ %s\\n' {_quoted(line.rstrip())}", f"eval {_quoted(line)}"]

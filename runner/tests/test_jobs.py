@@ -88,7 +88,7 @@ class Jobs(Case):
               script:
                 - env | sort
                 - test "$PWD" = "$CI_PROJECT_DIR"
-                - cat
+                - cat; test "$(wc -c < /dev/stdin)" = 0
             """,
             environment={"SECRET_OF_THE_RUNNER": "x", "CI_SERVER_HOST": "wrong"})
         trace = self.project.trace(number, "build")

@@ -196,6 +196,20 @@ class Leases(Case):
         self.assertEqual(self.cause(), ["2|3"])
 
 
+    def test_a_grant_that_comes_late(self) -> None:
+        proxy = SlowProxy(self.server.port)
+        self.addCleanup(proxy.close)
+        proxy.goes_on.clear()
+        self.project.pipeline("build:\n  script: echo\n")
+        real, self.server.port = self.server.port, proxy.port
+        self.begin_runner(self.tokens[0])
+        self.server.port = real
+        until(lambda: self.project.shown(1)["status"] == "running")
+        self.put_on(110)
+        proxy.goes_on.set()
+        self.assertEqual(self.project.ends(1), "success", self.read("one.log"))
+
+
 class LossyProxy:
     """Hands requests on to a server, and every second reply to what is said of an attempt to nobody."""
 
