@@ -169,7 +169,9 @@ class Job:
         finally:
             self.stop("lost")  # it runs still only where this thread failed
             self.worked.wait()
-            store.remove_tree(self.room)
+            where.remove_folder(self.config, self.room)
+            if os.path.lexists(self.room):
+                say(f"{self.room} can't be removed, and stays")
 
     def stop(self, reason: str) -> None:
         """Has the job end: at once where the server says that it is no longer its runner's."""
@@ -252,7 +254,9 @@ class Job:
         answer = self._tell({"state": state, "failure_reason": cause} | ({} if code is None else {"exit_code": code}))
         if self.has_kept and not (self.result and answer and answer.status == 200):
             store.drop_artifacts(self)
-        untold = "" if answer or self.over else ", and the server wasn't told"
+        untold = ", but the server took nothing more of it" if self.over else ", and the server wasn't told"
+        if (answer and answer.status == 200) or told in (TOLD["canceled"][0], TOLD["lost"][0]):
+            untold = ""
         say(f"attempt {self.attempt} of {self.name}, project {self.project}: {told}{untold}")
 
     def _tell(self, said: dict) -> Answer | None:

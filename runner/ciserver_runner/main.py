@@ -156,7 +156,7 @@ def main(words: list[str]) -> int:
         return 2
     with lock:
         where.remove_left(config)
-        store.remove_tree(os.path.join(config.folder, "jobs"))
+        where.remove_folder(config, os.path.join(config.folder, "jobs"))
         say(f"runner {config.number} ({config.name}) asks {config.url} for jobs, {config.concurrent} at once")
         Runner(config).run()
         say("ended")

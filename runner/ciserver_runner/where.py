@@ -8,6 +8,7 @@ import shutil
 import subprocess
 from typing import TYPE_CHECKING
 
+from . import store
 from .config import Config
 from .git import clone_of
 from .refused import Refused
@@ -117,6 +118,13 @@ def remove_left(config: Config) -> None:
                                 stdout=subprocess.PIPE, stderr=subprocess.DEVNULL, text=True, check=False)
         if listed.stdout.split():
             _quiet([*removal, *listed.stdout.split()])
+
+
+def remove_folder(config: Config, path: str) -> None:
+    """Removes a folder of jobs. What other users of a container without root made in it, the engine alone may remove."""
+    store.remove_tree(path)
+    if os.path.lexists(path) and config.where == "container" and config.engine == "podman" and shutil.which("podman"):
+        _quiet(["podman", "unshare", "rm", "-rf", path])
 
 
 def _name(job: Job) -> str:

@@ -107,6 +107,14 @@ class StandIn(Case):
         self.server.kill()
         self.assertEqual(self.server.rows("SELECT cause, exit FROM attempt ORDER BY job"), ["4|", "1|125"])
 
+    def test_what_the_runner_may_not_remove_the_engine_removes(self) -> None:
+        os.chmod(self.write("bin/rm", "#!/bin/sh\nexit 1\n"), 0o755)  # as where another user of the container made it
+        self.begin(rest='[container]\nimage = "debian:12"\n')
+        self.assertEqual(self.project.ends(self.project.pipeline("a:\n  script: echo\n")), "success")
+        room = self.path("one/jobs/1")
+        until(lambda: f"{room} can't be removed, and stays" in self.read("one.log"))
+        self.assertIn(["unshare", "rm", "-rf", room], self.words())
+
     def test_image_without_containers(self) -> None:
         self.begin(top="")
         file = "a:\n  variables:\n    CI_JOB_IMAGE: debian:12\n  script: echo\n"

@@ -65,6 +65,17 @@ class Leases(Case):
         self.assert_gone()
         until(lambda: "attempt 1 of long, project 1: it was cancelled" in self.read("one.log"))
 
+    def test_job_that_ends_by_itself_once_it_was_cancelled(self) -> None:
+        self.begin_runner(self.tokens[0])
+        self.project.pipeline(f"a:\n  variables:\n    CI_JOB_ARTIFACTS: hello.txt\n  script: touch {self.room}/begun; until test -e {self.room}/end; do sleep 0.1; done\n")
+        until(lambda: os.path.exists(self.path("begun")))
+        time.sleep(2)  # what it printed is sent, and nothing more is said for ten seconds
+        self.project.ask("POST", "/jobs/1/cancel")
+        self.write("end", "")
+        until(lambda: "attempt 1 of a, project 1: success, but the server took nothing more of it\n" in self.read("one.log"), 20)
+        self.assertEqual(self.project.job(1, "a")["status"], "canceled")
+        self.assertEqual(os.listdir(self.path("one/artifacts/1/1")), [])
+
     def test_time_limit(self) -> None:
         self.begin_runner(self.tokens[0])
         self.project.pipeline(f"long:\n  timeout: 1 minute\n  script: touch {self.room}/begun; sleep 1000\n")
