@@ -60,7 +60,8 @@ class Config:
 
 # The key of a table, the field that it fills, the kind of its value, and what a number is multiplied by.
 TOP = {
-    "url": ("url", str, 1), "token": ("token", str, 1), "token_file": ("token_file", str, 1), "name": ("name", str, 1), "folder": ("folder", str, 1), "ca_file": ("ca_file", str, 1),
+    "url": ("url", str, 1), "token": ("token", str, 1), "token_file": ("token_file", str, 1), "name": ("name", str, 1), "folder": ("folder", str, 1),
+    "ca_file": ("ca_file", str, 1),
     "concurrent": ("concurrent", int, 1), "longest_pause_seconds": ("longest_pause", int, 1), "where": ("where", str, 1),
     "shell": ("shell", str, 1), "path": ("path", str, 1), "images_in_shell": ("images_in_shell", bool, 1), "masked": ("masked", list, 1),
 }

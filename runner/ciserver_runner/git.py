@@ -17,6 +17,7 @@ if TYPE_CHECKING:
     from .job import Job
 
 TRIES = 3
+LONGEST = 60_000  # bytes of what is told of a commit: with a variable of over 131,000 no program begins
 COMMIT = r"[0-9a-f]{40}|[0-9a-f]{64}"
 FIELDS = {"CI_COMMIT_TITLE": "%s", "CI_COMMIT_AUTHOR": "%an <%ae>", "CI_COMMIT_TIMESTAMP": "%cI", "CI_COMMIT_MESSAGE": "%B",
           "CI_COMMIT_DESCRIPTION": "%b"}
@@ -119,7 +120,8 @@ def _ref(job: Job) -> tuple[str, str]:
 
 def _told(job: Job, commit: str) -> dict[str, str]:
     text = _asked(job.folder, "log", "-1", "--format=" + "%x00".join(FIELDS.values()), commit)
-    return dict(zip(FIELDS, (value.strip("\n") for value in text.split("\0"))))
+    values = (value.strip("\n").encode(errors="replace")[:LONGEST].decode(errors="ignore") for value in text.split("\0"))
+    return dict(zip(FIELDS, values))
 
 
 def _submodules(job: Job, project: Project) -> None:

@@ -60,6 +60,12 @@ class Jobs(Case):
             self.assertEqual(self.ended("build:\n  script: echo\n", ref, variables, runner=False), (number, "failed"))
             self.assert_line(self.project.trace(number, "build"), f"the runner failed: {told}")
 
+    def test_a_commit_with_a_very_long_message(self) -> None:
+        self.git("commit", "--quiet", "--allow-empty", "-F", self.write("message", "first line\n\n" + "word\n" * 40_000))
+        number, status = self.ended("build:\n  script: ls; echo ${#CI_COMMIT_MESSAGE} $CI_COMMIT_TITLE\n")
+        self.assertEqual(status, "success")
+        self.assert_line(self.project.trace(number, "build"), "60000 first line")
+
     def test_a_project_that_isnt_in_the_map(self) -> None:
         self.server.kill()
         other = Project(self.server, self.server.project(), 2)

@@ -67,7 +67,8 @@ class Leases(Case):
 
     def test_job_that_ends_by_itself_once_it_was_cancelled(self) -> None:
         self.begin_runner(self.tokens[0])
-        self.project.pipeline(f"a:\n  variables:\n    CI_JOB_ARTIFACTS: hello.txt\n  script: touch {self.room}/begun; until test -e {self.room}/end; do sleep 0.1; done\n")
+        self.project.pipeline("a:\n  variables:\n    CI_JOB_ARTIFACTS: hello.txt\n"
+                              f"  script: touch {self.room}/begun; until test -e {self.room}/end; do sleep 0.1; done\n")
         until(lambda: os.path.exists(self.path("begun")))
         time.sleep(2)  # what it printed is sent, and nothing more is said for ten seconds
         self.project.ask("POST", "/jobs/1/cancel")

@@ -98,7 +98,8 @@ class Patterns(unittest.TestCase):
                                 ("b/**", ["b/a.txt", "b/c/a.txt", "b/c/x.o"]),
                                 ("?.{txt,log}", ["a.txt", "d.log"]), ("[ab].txt", ["a.txt"]), ("[!a].log", ["d.log"]), ("*/f", [".hidden/f"]),
                                 ("[[]x]", ["[x]"]), ("a,b", ["a,b"]), ("b/**/x.o", ["b/c/x.o"]), ("{b/{a,z},d}.{txt,log}", ["b/a.txt", "d.log"]),
-                                ("**a*t", ["a.txt", "b/a.txt", "b/c/a.txt"]), ("**/c/*.*", ["b/c/a.txt", "b/c/x.o"]), ("*b/**/*a*", ["b/a.txt", "b/c/a.txt"])):
+                                ("**a*t", ["a.txt", "b/a.txt", "b/c/a.txt"]), ("**/c/*.*", ["b/c/a.txt", "b/c/x.o"]),
+                                ("*b/**/*a*", ["b/a.txt", "b/c/a.txt"])):
             looked = pack.compiled(pattern)
             self.assertEqual([name for name in names if looked.fullmatch(name)], wanted, pattern)
 
@@ -214,7 +215,8 @@ class Configurations(unittest.TestCase):
                            ({"projects": {"1": {"repository": "https://a:b@h/r"}}}, "has a password"),
                            ({"projects": {"1": {"repository": "r", "branch": "x"}}}, "unknown"), ({"projects": ["r"]}, "`projects` is a table"),
                            ({"projects": {"1": {"repository": "ssh://[::1/r"}}}, "`projects.1.repository`: Invalid IPv6 URL"),
-                           ({"url": "http://h:x"}, "`url` is http"), ({"url": "http://h:65536"}, "`url` is http"), ({"url": "http://[::1"}, "`url` is http"),
+                           ({"url": "http://h:x"}, "`url` is http"), ({"url": "http://h:65536"}, "`url` is http"),
+                           ({"url": "http://[::1"}, "`url` is http"),
                            ({"ca_file": "/none"}, "cannot read certificates of /none: No such file or directory"),
                            ({"ca_file": os.path.realpath(__file__)}, "cannot read certificates of .*no certificate"),
                            ({"token": 5}, "`token` is a text"), ({"token_file": True}, "`token_file` is a text"),
