@@ -129,8 +129,8 @@ def _through_link(root: str, name: str) -> bool:
 
 
 def pack(root: str, names: list[str], path: str, limit: int, check: Callable[[], None]) -> int:
-    """Writes files into a tar file, and answers how many bytes it has; refused where they are over a limit."""
-    size = 0
+    """Writes files into a tar file, and answers how many it has; refused where they are over a limit."""
+    size = count = 0
     with tarfile.open(path, "w", format=tarfile.PAX_FORMAT) as tar:
         for name in names:
             check()
@@ -138,6 +138,7 @@ def pack(root: str, names: list[str], path: str, limit: int, check: Callable[[],
             info = os.lstat(place)
             member = tarfile.TarInfo(name)
             member.mode, member.mtime = stat.S_IMODE(info.st_mode) & 0o777, info.st_mtime
+            count += stat.S_ISLNK(info.st_mode) or stat.S_ISREG(info.st_mode)
             if stat.S_ISDIR(info.st_mode):
                 member.type = tarfile.DIRTYPE
                 tar.addfile(member)
@@ -151,7 +152,7 @@ def pack(root: str, names: list[str], path: str, limit: int, check: Callable[[],
                 member.size = info.st_size
                 with open(os.open(place, os.O_RDONLY | os.O_NOFOLLOW), "rb") as file:
                     tar.addfile(member, file)
-    return size
+    return count
 
 
 def unpack(path: str, root: str, check: Callable[[], None]) -> int:

@@ -62,8 +62,7 @@ def keep_artifacts(job: Job, success: bool) -> None:
     path = os.path.join(_folder(job), str(job.attempt))
     if kept:
         names = matching(job.folder, patterns, _lines(job, "CI_JOB_ARTIFACTS_EXCLUDE"), job.check)
-        _pack(job, names, path + ".tar", job.config.artifacts_limit)
-        files = sum(not os.path.isdir(os.path.join(job.folder, name)) for name in names)
+        files = _pack(job, names, path + ".tar", job.config.artifacts_limit)
         job.trace.line(f"artifacts: {_files(files)} kept" if files else "artifacts: no file matches")
     record = {"job": job.name, "stage": job.stage, "attempt": job.attempt, "kept": kept, "expires": time.time() + seconds}
     with open(path + ".new", "w", encoding="utf-8") as file:
@@ -202,12 +201,13 @@ def _cache(job: Job, key: str) -> str:
     return os.path.join(job.config.cache_folder, str(job.project), hashlib.sha256(key.encode(errors="replace")).hexdigest() + ".tar")
 
 
-def _pack(job: Job, names: list[str], path: str, limit: int) -> None:
-    """Makes a tar file whole, or not at all."""
+def _pack(job: Job, names: list[str], path: str, limit: int) -> int:
+    """Makes a tar file whole, or not at all; answers how many files it has."""
     new = f"{path}.{job.attempt}.new"
     try:
-        pack(job.folder, names, new, limit, job.check)
+        count = pack(job.folder, names, new, limit, job.check)
         os.rename(new, path)
+        return count
     finally:
         _remove(new)
 

@@ -127,8 +127,9 @@ class Patterns(unittest.TestCase):
             self.assertEqual(pack.matching(root, [".git/config", ".git/*"], [], lambda: None), [])
             names = pack.matching(root, ["."], [], lambda: None)
             self.assertEqual(names, ["a", "a/.git", "a/.git/config", "a/b", "pipe"])
-            pack.pack(root, names, root + "/x.tar", 10, lambda: None)
-            self.assertEqual(run("tar", "-tf", root + "/x.tar").splitlines(), ["a/", "a/.git/", "a/.git/config", "a/b"])
+            os.symlink("a", root + "/link")
+            self.assertEqual(pack.pack(root, [*names, "link"], root + "/x.tar", 10, lambda: None), 3)
+            self.assertEqual(run("tar", "-tf", root + "/x.tar").splitlines(), ["a/", "a/.git/", "a/.git/config", "a/b", "link"])
 
 
 class Texts(unittest.TestCase):
