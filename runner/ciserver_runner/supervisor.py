@@ -5,7 +5,7 @@ what the command has on standard input, and what is asked, as JSON: `words`, `fo
 all must be gone), `after` (commands that take away what isn't below this process, as containers), `leave` (what it started stays where it ends
 by itself). On standard input it is told `until SECOND` and `end SECONDS`; that this closes means that the runner is gone.
 It ends as the command did; by a signal N with 128 + N. The process that does all this has one over itself, which kills what is left where a command
-kills its parent.
+kills its parent, and has that go on where a command stops it.
 """
 import ctypes
 import json
@@ -169,7 +169,9 @@ def main():
     if not process:
         return supervised(asked, stdin)
     os.close(stdin)
-    status = os.waitstatus_to_exitcode(os.waitpid(process, 0)[1])
+    while os.WIFSTOPPED(ended := os.waitpid(process, os.WUNTRACED)[1]):
+        os.kill(process, signal.SIGCONT)
+    status = os.waitstatus_to_exitcode(ended)
     if status < 0:
         kill_all()
         take_away(asked["after"])

@@ -144,6 +144,11 @@ class Jobs(Case):
         self.server.kill()
         self.assertEqual(self.server.rows("SELECT state, cause, exit FROM attempt"), ["2|1|137"])
 
+    def test_a_script_that_stops_its_parent(self) -> None:
+        number, status = self.ended("build:\n  script: kill -STOP $PPID; sleep 1; exit 4\n")
+        self.assertEqual(status, "failed")
+        self.assert_line(self.project.trace(number, "build"), "ended: exit code 4")
+
     def test_a_process_that_nobody_may_kill_isnt_waited_for(self) -> None:
         self.begin_runner(self.token)
         number = self.project.pipeline(f"build:\n  script: echo $$ > {self.room}/pid; sleep 2; echo the end\n")
