@@ -35,6 +35,7 @@ CAUSES = (
     "unknown_failure", "script_failure", "api_failure", "stuck_or_timeout_failure", "runner_system_failure", "job_execution_timeout",
 )
 SOURCES = ("push", "web", "schedule", "api", "trigger")
+OLDEST_FIRST, NEWEST_READY_FIRST = 1, 2
 MOST_NUMBER = 9_007_199_254_740_991
 
 # The places of a picture, in pixels.
@@ -137,26 +138,53 @@ def opened(path: str) -> sqlite3.Connection:
     return file
 
 
+class Groups:
+    """The resource groups of a project: which are held, and which pipelines have jobs that go before others, where a mode says so."""
+
+    def __init__(self, file: sqlite3.Connection, project: int):
+        self.held = {row[0] for row in file.execute("SELECT grp FROM holder WHERE project = ?", (project,))}
+        # A file of version 1 has no modes.
+        has_modes = file.execute("SELECT 1 FROM sqlite_master WHERE name = 'mode'").fetchone()
+        self.modes = dict(file.execute("SELECT grp, mode FROM mode WHERE project = ?", (project,)) if has_modes else ())
+        self.created: dict[str, set[int]] = {}
+        self.pending: dict[str, set[int]] = {}
+        rows = file.execute(
+            "SELECT pipeline, spec, status FROM job JOIN board ON job = job.id JOIN pipeline ON pipeline = pipeline.id "
+            "WHERE project = ? AND status IN (0, 1)",
+            (project,),
+        )
+        for pipeline, spec, status in rows if self.modes else ():
+            of = (self.created, self.pending)[status]
+            of.setdefault(json.loads(spec)["resource_group"], set()).add(pipeline)
+
+    def must_wait(self, group: str | None, pipeline: int) -> bool:
+        """Whether a pending job of a pipeline waits for its group."""
+        mode, pending = self.modes.get(group), self.pending.get(group, set())
+        if mode == OLDEST_FIRST and any(it < pipeline for it in pending | self.created.get(group, set())):
+            return True
+        return group in self.held or mode == NEWEST_READY_FIRST and any(it > pipeline for it in pending)
+
+
 def pipelines_of(file: sqlite3.Connection, project: int, last: int, most: int) -> list[Pipeline]:
     found = []
-    held = {row[0] for row in file.execute("SELECT grp FROM holder WHERE project = ?", (project,))}
+    groups = Groups(file, project)
     rows = file.execute(
         "SELECT id, ref, kind, source, created FROM pipeline WHERE project = ? ORDER BY id DESC LIMIT ?", (project, last)
     ).fetchall()
     for number, ref, kind, source, created in rows:
-        jobs = jobs_of(file, number, held, most)
+        jobs = jobs_of(file, number, groups, most)
         found.append(Pipeline(number, ref, ("branch", "tag")[kind], SOURCES[source], created, jobs))
     return found
 
 
-def jobs_of(file: sqlite3.Connection, pipeline: int, held: set[str], most: int) -> list[Job]:
+def jobs_of(file: sqlite3.Connection, pipeline: int, groups: Groups, most: int) -> list[Job]:
     """The jobs of a pipeline in their order, with what they wait for."""
     jobs: dict[int, Job] = {}
     for number, name, stage, spec, aside, status in file.execute(
         "SELECT id, name, stage, spec, aside, status FROM job JOIN board ON job = id WHERE pipeline = ? ORDER BY pos", (pipeline,)
     ):
         job = Job(number, name, stage, json.loads(spec), aside, STATUSES[status])
-        if job.status == "pending" and job.spec["resource_group"] in held:
+        if job.status == "pending" and groups.must_wait(job.spec["resource_group"], pipeline):
             job.status = "waiting_for_resource"
         jobs[number] = job
     for job in jobs.values():

@@ -86,7 +86,12 @@ passes 'a project without pipelines' written 0 "$db" 3
 passes 'it is whole' reads
 passes 'it says so' has 'no pipeline yet'
 
-passes 'no such project' written 1 "$db" 4
+passes 'groups with a mode' written 0 "$db" 4
+passes 'it is whole' reads
+passes 'its statuses' reported 13 12 11
+passes 'who waits' [ "$(grep waiting "$work/shown" | sort | paste -sd ,)" = 'job 25 waiting_for_resource,job 26 waiting_for_resource,job 28 waiting_for_resource' ]
+
+passes 'no such project' written 1 "$db" 5
 passes 'no words' written 2
 passes 'no project' written 2 "$db"
 passes 'a project that is no number' written 2 "$db" 01
