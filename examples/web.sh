@@ -14,7 +14,7 @@ while (: < "/dev/tcp/127.0.0.1/$port") 2> /dev/null; do port=$((20000 + RANDOM %
   [ "$(id -u)" != 0 ] || echo 'user root;'
   printf 'daemon off; worker_processes 1; pid %s/pid; events {} http { include /etc/nginx/mime.types; access_log %s/asked;\n' "$room" "$room"
   for part in client_body proxy fastcgi uwsgi scgi; do printf '%s_temp_path %s/%s;\n' "$part" "$room" "$part"; done
-  sed "s|listen 443 ssl|listen 127.0.0.1:$port|; /ssl_cert/d; s|127.0.0.1:8080|127.0.0.1:${1-8080}|; s|root /.*;|root $page;|" "$here/nginx.conf"
+  sed "s|listen 443 ssl|listen 127.0.0.1:$port|; /ssl_cert/d; s|127.0.0.1:8080|127.0.0.1:${1-8080}|; s|root /.*;|root \"$page\";|" "$here/nginx.conf"
   echo '}'
 } > "$room/nginx.conf"
 nginx -e "$room/faults" -c "$room/nginx.conf" &

@@ -1,6 +1,8 @@
 """What is tried of the page. Each test has a server of its own."""
 import json
 import os
+import subprocess
+import tempfile
 from itertools import pairwise
 
 from browser import ENTER, ESCAPE, TAB
@@ -504,3 +506,18 @@ def test_a_pipeline_of_two_hundred_jobs_and_a_long_trace(stand, browser):
     assert spent < 20, spent
     browser.driver.find_element(By.CSS_SELECTOR, "[data-pane=follow]").click()
     assert browser.sees("[data-pane=follow][aria-pressed=false]", "")
+
+
+def test_the_page_may_lie_in_a_folder_with_a_blank(stand, browser):
+    with tempfile.TemporaryDirectory(prefix="a page ") as room:
+        with open(os.path.join(room, "index.html"), "w", encoding="utf-8") as file:
+            file.write("<p>it lies here</p>")
+        words = [f"{ROOT}/examples/web.sh", str(stand.server.port)]
+        front = subprocess.Popen(words, stdout=subprocess.PIPE, text=True, start_new_session=True, env=os.environ | {"PAGE": room})
+        try:
+            browser.driver.get(front.stdout.readline().strip())
+            assert browser.sees("p", "^it lies here$")
+        finally:
+            front.terminate()
+            front.wait()
+            front.stdout.close()
