@@ -474,6 +474,11 @@ def test_it_fits_a_telephone(stand, browser):
         assert browser.run("return document.documentElement.scrollWidth") <= 390, where
     small = browser.run("return [...document.querySelectorAll('button')].filter(it => it.offsetParent && it.offsetHeight < 24).length")
     assert small == 0
+    browser.metrics(320, 600)
+    for where in ("#/pipelines", at(pipeline), at(pipeline, job), "#/waiting", "#/groups"):
+        browser.open(where)
+        assert browser.sees("main .ref, main [data-group]")
+        assert browser.run("return document.documentElement.scrollWidth") <= 320, where
 
 
 def test_dark_and_light(stand, browser):
@@ -506,6 +511,37 @@ def test_a_pipeline_of_two_hundred_jobs_and_a_long_trace(stand, browser):
     assert spent < 20, spent
     browser.driver.find_element(By.CSS_SELECTOR, "[data-pane=follow]").click()
     assert browser.sees("[data-pane=follow][aria-pressed=false]", "")
+
+
+def luminance(colour):
+    parts = [part / 255 for part in colour]
+    return sum(share * (part / 12.92 if part <= 0.04045 else ((part + 0.055) / 1.055) ** 2.4) for share, part in zip((0.2126, 0.7152, 0.0722), parts))
+
+
+def contrast(browser, selector, part="color", ground=None, pseudo=None):
+    """The contrast of what a selector finds with its ground, by WCAG."""
+    found = browser.run("return [getComputedStyle(document.querySelector(arguments[0]), arguments[3])[arguments[1]], getComputedStyle(document.querySelector(arguments[2])).backgroundColor]",
+                        selector, part, ground or selector, pseudo)
+    one, other = sorted((luminance([int(it) for it in colour[colour.index("(") + 1:-1].split(",")[:3]]) for colour in found), reverse=True)
+    return (one + 0.05) / (other + 0.05)
+
+
+def test_it_is_read_well(stand, browser):
+    pipeline = stand.pipeline(CHAIN)["id"]
+    job, grant = stand.job(pipeline, "compile"), stand.take()
+    grant.says("\x1b[30;43mWARN\x1b[0m \x1b[7;32mPASS\x1b[0m \x1b[102mbright\x1b[0m\nhere\n").ends()
+    for scheme in ("light", "dark"):
+        browser.scheme(scheme)
+        browser.open("#/pipelines")
+        assert browser.sees("main .chip")
+        assert contrast(browser, "[name=ref]", ground="[name=ref]", pseudo="::placeholder") >= 4.5
+        browser.go(at(pipeline))
+        assert browser.sees(".box") and contrast(browser, ".lines path", "stroke", ".wide") >= 3
+        browser.go(f"{at(pipeline, job)}/attempts/{grant.id}/lines/2")
+        assert browser.sees(".line.here")
+        assert contrast(browser, ".line.here .no", ground=".line.here") >= 4.5
+        for nth in (1, 2, 3):
+            assert contrast(browser, f"[data-line='1'] .text span:nth-child({nth})") >= 4.5, nth
 
 
 def test_the_page_may_lie_in_a_folder_with_a_blank(stand, browser):
