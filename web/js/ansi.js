@@ -1,7 +1,10 @@
 // The colours of a terminal (SGR), as classes of the page's own style; every other sequence is left out.
 
 // eslint-disable-next-line no-control-regex
-const SEQUENCE = /\x1b\[([0-9;:]*)([ -/]*)([@-~])|\x1b\][^\x07\x1b]*(?:\x07|\x1b\\)|\x1b[PX^_][^\x1b]*\x1b\\|\x1b[ -/]*[0-~]|[\x00-\x08\x0b\x0c\x0e-\x1a\x1c-\x1f\x7f]/g;
+const SEQUENCE = /\x1b\[([0-?]*)([ -/]*)([@-~]|$)|\x1b\][^\x07\x1b]*(?:\x07|\x1b\\)|\x1b[PX^_][^\x1b]*\x1b\\|\x1b[ -/]*[0-~]|[\x00-\x08\x0b\x0c\x0e-\x1a\x1c-\x1f\x7f]/g;
+
+/** A text without colours and commands. */
+export const bare = (text) => text.replace(SEQUENCE, "");
 
 export const plain = () => ({ fore: null, back: null, bold: false, dim: false, italic: false, under: false, strike: false, turned: false });
 
@@ -30,20 +33,33 @@ const SWITCHES = {
   22: { bold: false, dim: false }, 23: { italic: false }, 24: { under: false }, 27: { turned: false }, 29: { strike: false }, 39: { fore: null }, 49: { back: null },
 };
 
-function turn(style, codes) {
+// 58 is the colour of what underlines, which isn't shown.
+const PAINTED = { 38: "fore", 48: "back", 58: "line" };
+
+function paint(style, codes, at) {
+  const [colour, taken] = further(codes, at), place = PAINTED[codes[at]];
+  if (place in style) style[place] = colour;
+  return taken;
+}
+
+/** A code with parts of its own, behind colons: `4:3`, `38:5:208`, `38:2::1:2:3`. */
+function turnByParts(style, codes) {
+  if (codes[0] === 4) style.under = codes[1] !== 0;
+  else if (PAINTED[codes[0]]) paint(style, codes[1] === 2 && codes.length > 5 ? [codes[0], 2, ...codes.slice(3)] : codes, 0);
+}
+
+function turn(style, text) {
+  const codes = text.split(";").map((code) => (code.includes(":") ? code.split(":").map(Number) : Number(code)));
   for (let at = 0; at < codes.length; at += 1) {
     const code = codes[at];
-    if (code === 0) Object.assign(style, plain());
+    if (Array.isArray(code)) turnByParts(style, code);
+    else if (code === 0) Object.assign(style, plain());
     else if (SWITCHES[code]) Object.assign(style, SWITCHES[code]);
     else if (code >= 30 && code <= 37) style.fore = code - 30;
     else if (code >= 90 && code <= 97) style.fore = code - 82;
     else if (code >= 40 && code <= 47) style.back = code - 40;
     else if (code >= 100 && code <= 107) style.back = code - 92;
-    else if (code === 38 || code === 48) {
-      const [colour, taken] = further(codes, at);
-      style[code === 38 ? "fore" : "back"] = colour;
-      at += taken;
-    }
+    else if (PAINTED[code]) at += paint(style, codes, at);
   }
 }
 
@@ -57,7 +73,7 @@ export function parts(line, style) {
   for (const match of line.matchAll(SEQUENCE)) {
     take(match.index);
     from = match.index + match[0].length;
-    if (match[3] === "m" && !match[2]) turn(style, match[1].split(/[;:]/).map(Number));
+    if (match[3] === "m" && !match[2] && !/[<-?]/.test(match[1])) turn(style, match[1]);
   }
   take(line.length);
   return found;
@@ -70,8 +86,10 @@ export function dress(style) {
   const own = {};
   for (const [colour, kind, property] of [[fore, "fg", "color"], [back, "bg", "backgroundColor"]]) {
     if (colour === null) continue;
-    if (typeof colour === "string" && colour !== "turned") own[property] = colour;
-    else names.push(`${kind}-${colour}`);
+    const isOwn = typeof colour === "string" && colour !== "turned";
+    if (isOwn) own[property] = colour;
+    if (isOwn && kind === "bg") names.push("bg-own");
+    if (!isOwn) names.push(`${kind}-${colour}`);
   }
   return { names: names.join(" "), own };
 }

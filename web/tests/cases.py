@@ -236,95 +236,6 @@ def test_pipelines_are_filtered(stand, browser):
     assert until(lambda: len(browser.all(".row")) == 3)
 
 
-def test_a_trace_grows_and_is_asked_from_where_it_was(stand, browser):
-    pipeline = stand.pipeline(ONE)["id"]
-    job, grant = stand.job(pipeline, "build"), stand.take()
-    grant.says("first line\nsecond ")
-    browser.open(at(pipeline, job))
-    assert browser.sees("[data-line='1'] .text", "^first line$") and browser.sees("[data-line='2'] .text", "^second ?$")
-    browser.run("document.querySelector('[data-line=\"1\"]').dataset.mine = 'yes'")
-    browser.run("window.whole = []; const was = window.fetch; window.fetch = async (url, more) => { const reply = await was(url, more); if (url.endsWith('/trace')) window.whole.push([more.headers.Range || null, reply.status]); return reply; }")
-    grant.says("line, in ü")
-    assert browser.sees("[data-line='2'] .text", "^second line, in ü$")
-    grant.says("\n" + "".join(f"line {n}\n" for n in range(3, 601)))
-    assert browser.sees("[data-line='600'] .text", "^line 600$")
-    assert browser.run("return document.querySelector('[data-line=\"1\"]').dataset.mine") == "yes"
-    assert until(lambda: browser.run("const it = document.querySelector('.log'); return it.scrollHeight - it.scrollTop - it.clientHeight") < 60)
-    asks = browser.run("return window.whole")
-    assert asks and all(it[0] and it[0].startswith("bytes=") for it in asks) and {it[1] for it in asks} <= {206, 416}, asks
-    grant.says("end").ends("failed", 7)
-    assert browser.sees("h1 + .chip", "failed") and browser.sees("[data-line='601'] .text", "^end$")
-    assert browser.sees(".attempts .why", "its script failed, exit code 7")
-    # It is asked for once more at most, where the page heard of the end just then.
-    count = len(browser.run("return window.whole"))
-    asks_again(browser, 2)
-    assert len(browser.run("return window.whole")) <= count + 1
-
-
-def test_a_trace_without_ranges_is_read_too(stand, browser):
-    pipeline = stand.pipeline(ONE)["id"]
-    job, grant = stand.job(pipeline, "build"), stand.take()
-    grant.says("one\n")
-    browser.open(at(pipeline, job))
-    assert browser.sees("[data-line='1'] .text", "^one$")
-    browser.run("const was = window.fetch; window.fetch = (url, more) => { delete more.headers.Range; return was(url, more); }")
-    grant.says("two\n")
-    assert browser.sees("[data-line='2'] .text", "^two$")
-    assert [it.text for it in browser.all(".line .text")] == ["one", "two"]
-
-
-def test_colours_sections_and_carriage_returns(stand, browser):
-    pipeline = stand.pipeline(ONE)["id"]
-    job, grant = stand.job(pipeline, "build"), stand.take()
-    grant.says("\x1b[31mred\x1b[0m plain \x1b[1;38;5;208mstrange\x1b[0m \x1b[38;2;1;2;3mown\x1b[m\x1b[K\r\n")
-    grant.says("section_start:100:one[collapsed=true]\r\x1b[0KThe first\nwithin\nsection_end:103:one\r\x1b[0K")
-    grant.says("section_start:103:two\r\x1b[0K\x1b[36mThe second\x1b[0m\n10%\r50%\r100%\n\x1b]0;title\x07after\nsection_end:110:two\r\x1b[0K\n\x1b[32mgreen goes\non\x1b[0m\n").ends()
-    browser.open(at(pipeline, job))
-    assert browser.sees("[data-line='8'] .text", "on")
-    texts = [it.get_attribute("textContent") for it in browser.all(".line .text")]
-    assert texts == ["red plain strange own", "The first", "within", "The second", "100%", "after", "green goes", "on"], texts
-    assert browser.find(".fg-1").text == "red" and browser.find("[data-line='8'] .fg-2").text == "on"
-    assert browser.run("return [...document.querySelectorAll('[data-line=\"1\"] span span')].map(it => it.style.color)") == ["", "rgb(255, 135, 0)", "rgb(1, 2, 3)"]
-    assert browser.run("return [...document.querySelectorAll('details.section')].map(it => [it.dataset.section, it.open, it.querySelector('.took').textContent])") == [["one", False, "3 s"], ["two", True, "7 s"]]
-    browser.press("[data-section=one] summary .text")
-    assert browser.run("return document.querySelector('[data-section=one]').open")
-
-
-def test_each_line_has_a_link_and_the_raw_text_is_shown(stand, browser):
-    pipeline = stand.pipeline(ONE)["id"]
-    job, grant = stand.job(pipeline, "build"), stand.take()
-    grant.says("".join(f"\x1b[32mline {n}\x1b[0m\n" for n in range(1, 401))).ends()
-    browser.open(at(pipeline, job))
-    assert browser.sees("[data-line='400']")
-    browser.run("document.querySelector('[data-line=\"250\"] .no').click()")
-    wanted = f"#/pipelines/{pipeline}/jobs/{job}/attempts/{grant.id}/lines/250"
-    assert until(lambda: browser.run("return location.hash") == wanted)
-    assert browser.sees(".line.here .text", "^line 250$")
-    browser.driver.refresh()
-    assert browser.sees(".line.here .text", "^line 250$")
-    assert until(lambda: browser.run("const a = document.querySelector('.line.here').getBoundingClientRect(), b = document.querySelector('.log').getBoundingClientRect(); return a.top >= b.top && a.bottom <= b.bottom"))
-    browser.press("[data-pane=raw]")
-    assert browser.sees("pre.raw") and browser.run("return document.querySelector('pre.raw').textContent").startswith("\x1b[32mline 1\x1b[0m\n")
-    browser.press("[data-pane=raw]")
-    assert browser.gone("pre.raw")
-
-
-def test_attempts_are_told_and_each_has_its_trace(stand, browser):
-    pipeline = stand.pipeline(ONE)["id"]
-    job, first = stand.job(pipeline, "build"), stand.take()
-    first.says("of the first\n").ends("failed", None, "runner_system_failure")
-    stand.user("POST", f"/jobs/{job}/retry")
-    second = stand.take()
-    second.says("of the second\n")
-    browser.open(at(pipeline, job))
-    assert browser.sees("[data-line='1'] .text", "of the second")
-    assert browser.sees(f"[data-key='attempt-{first.id}']", "failed.*the runner's own system failed.*shell")
-    browser.press(f"[data-key='attempt-{first.id}'] a")
-    assert browser.sees("[data-line='1'] .text", "of the first")
-    assert browser.find(f"[data-key='attempt-{first.id}'] [aria-current]")
-    assert browser.sees("h1 + .chip", "running")
-
-
 def test_a_name_that_is_a_script_stays_text(stand, browser):
     pipeline = stand.pipeline(SCRIPT, "<img src=x onerror=document.title='owned'>")["id"]
     name = "<script>document.title='owned'</script>"
@@ -339,17 +250,6 @@ def test_a_name_that_is_a_script_stays_text(stand, browser):
     browser.open("#/groups")
     assert browser.sees("[data-group]", "<b>bold</b>.*free")
     assert browser.run("return document.querySelectorAll('main b').length") == 0
-
-
-def test_a_trace_that_is_a_script_stays_text(stand, browser):
-    pipeline = stand.pipeline(ONE)["id"]
-    job, grant = stand.job(pipeline, "build"), stand.take()
-    grant.says("<script>document.title='owned'</script>\n<img src=x onerror=\"document.title='owned'\">\n\x1b[31m<b>no</b>\x1b[0m\x00\x07\n").ends()
-    browser.open(at(pipeline, job))
-    assert browser.sees("[data-line='2'] .text", "^<img src=x")
-    assert browser.sees("[data-line='3'] .text", "^<b>no</b>$")
-    assert browser.run("return document.querySelectorAll('.log script, .log img, .log b').length") == 0
-    assert "owned" not in browser.driver.title
 
 
 def test_what_waits_is_told_with_why(stand, browser):

@@ -59,8 +59,9 @@ def main():
         print("0 passed, 1 failed")
         return 1
     import cases
+    import traces
     from browser import Browser
-    tests = {name[5:]: test for name, test in vars(cases).items() if name.startswith("test_")}
+    tests = {name[5:]: test for name, test in (vars(cases) | vars(traces)).items() if name.startswith("test_")}
     unknown = [word for word in words if word not in tests]
     if unknown:
         print(f"no such test: {', '.join(unknown)}", file=sys.stderr)
