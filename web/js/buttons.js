@@ -17,12 +17,15 @@ export function picture(kind) {
   return svg("svg", { class: `picture-${kind}`, viewBox: "0 0 24 24", width: 16, height: 16, "aria-hidden": "true" }, svg("path", { d: PICTURES[kind] }));
 }
 
+// What is being done: its button can't be pressed again meanwhile, also where the page is drawn anew.
+const doing = new Set();
+
 /** A button that does an act to a number; with `small` it is its picture alone. */
 export function button(act, id, kind, text, { small = false, tone = "", of = "" } = {}) {
   const label = of ? `${text} ${of}` : text;
   return el(
     "button",
-    { type: "button", class: `button ${small ? "small" : ""} ${tone}`, "data-act": act, "data-id": id, "data-key": `${act}-${id}`, title: small ? label : null, "aria-label": label },
+    { type: "button", class: `button ${small ? "small" : ""} ${tone}`, "data-act": act, "data-id": id, "data-key": `${act}-${id}`, title: small ? label : null, "aria-label": label, disabled: doing.has(`${act}-${id}`) },
     picture(kind),
     small ? null : el("span", {}, text),
   );
@@ -50,9 +53,19 @@ const ACTS = {
     return `Pipeline ${pipeline.id} is cancelled.`;
   },
   "retry-failed": async (id) => {
-    const jobs = failedOf(jobsOf(Number(id)));
-    for (const job of jobs) await ask("POST", `/jobs/${job.id}/retry`);
-    return `${jobs.length} ${jobs.length === 1 ? "job is" : "jobs are"} tried again.`;
+    let count = 0, quicker = null;
+    for (const job of failedOf(jobsOf(Number(id)))) {
+      try {
+        await ask("POST", `/jobs/${job.id}/retry`);
+        count += 1;
+      } catch (fault) {
+        // Somebody had it tried again just before: the others are to be, all the same.
+        if (fault.code !== "M11") throw fault;
+        quicker = fault;
+      }
+    }
+    if (!count && quicker) throw quicker;
+    return `${count} ${count === 1 ? "job is" : "jobs are"} tried again.`;
   },
 };
 
@@ -60,10 +73,15 @@ const told = (job, what) => `${job.name} ${what}.`;
 
 /** Does what a button says. What came of it is told, and all that is shown is asked for again. */
 export async function act(kind, id, pressed) {
-  if (!ACTS[kind]) return false;
+  if (!ACTS[kind] || doing.has(`${kind}-${id}`)) return false;
   pressed.disabled = true;
-  await attempt(() => ACTS[kind](id));
-  pressed.disabled = false;
+  doing.add(`${kind}-${id}`);
+  try {
+    await attempt(() => ACTS[kind](id));
+  } finally {
+    doing.delete(`${kind}-${id}`);
+    pressed.disabled = false;
+  }
   fresh();
   return true;
 }

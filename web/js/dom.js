@@ -33,7 +33,7 @@ const alike = (one, other) => one.nodeName === other.nodeName && keyOf(one) === 
 
 function patchAttributes(old, fresh) {
   for (const { name } of [...old.attributes]) {
-    if (!fresh.hasAttribute(name) && !(name === "open" && old.hasAttribute("data-open"))) old.removeAttribute(name);
+    if (!fresh.hasAttribute(name)) old.removeAttribute(name);
   }
   for (const { name, value } of fresh.attributes) {
     if (old.getAttribute(name) === value) continue;
@@ -55,9 +55,12 @@ function patchNode(old, fresh) {
 
 /** Makes the children of `old` those of `fresh`. Nodes that stay the same stay in their place, with focus, selection and scrolling. */
 export function patch(old, fresh) {
-  const keyed = new Map();
-  for (const child of old.childNodes) {
-    if (keyOf(child) !== null) keyed.set(keyOf(child), child);
+  const keyed = new Map(), stay = new Set([...fresh.childNodes].map(keyOf));
+  for (const child of [...old.childNodes]) {
+    if (keyOf(child) === null) continue;
+    // What goes makes room first, so that what stays needn't be moved: a node that is moved loses the focus.
+    if (stay.has(keyOf(child))) keyed.set(keyOf(child), child);
+    else child.remove();
   }
   let at = old.firstChild;
   for (const child of [...fresh.childNodes]) {

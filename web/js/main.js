@@ -98,7 +98,8 @@ document.addEventListener("click", async (event) => {
   if (PRESSED[kind]) {
     event.preventDefault();
     PRESSED[kind](pressed);
-  } else {
+  } else if (event.detail < 2) {
+    // The second click of two may meet a button that stands where the first one's was: it isn't meant.
     await act(kind, pressed.dataset.id, pressed);
   }
 });

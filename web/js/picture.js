@@ -49,9 +49,12 @@ export function picture(pipeline, jobs) {
   );
 }
 
-/** While a box is pointed at or has the focus, its lines stand out. */
+let marked = null;
+
+/** While a box is pointed at or has the focus, its lines stand out; without a target those of the last one, where the page was drawn anew. */
 export function markLines(target) {
-  const id = target?.closest?.(".box")?.dataset.box ?? null;
+  if (target) marked = target.closest?.(".box")?.dataset.box ?? null;
+  const id = marked;
   for (const line of document.querySelectorAll(".lines [data-ids]")) {
     const [first, ...others] = line.dataset.ids.split(" ");
     line.classList.toggle("marked", id !== null && (first === id || others.includes(id)));

@@ -4,7 +4,7 @@ import { el } from "./dom.js";
 import { faultOf, jobsOf, pipelineOf } from "./known.js";
 import { name, toJob } from "./links.js";
 import { origin, pipelineButtons, pipelineChip } from "./list.js";
-import { picture } from "./picture.js";
+import { markLines, picture } from "./picture.js";
 import { chip, OPEN, said, toneOf, why } from "./statuses.js";
 import { lasting, moment, ranFor, spanOf } from "./times.js";
 
@@ -42,6 +42,10 @@ export class PipelineView {
 
   moves() {
     return (jobsOf(this.id) ?? []).some((job) => OPEN.has(job.status));
+  }
+
+  drawn() {
+    markLines(null);
   }
 
   head(pipeline, jobs) {

@@ -413,6 +413,66 @@ def test_a_pipeline_of_two_hundred_jobs_and_a_long_trace(stand, browser):
     assert browser.sees("[data-pane=follow][aria-pressed=false]", "")
 
 
+def test_two_clicks_are_one_act(stand, browser):
+    pipeline = stand.pipeline(ONE)["id"]
+    job = stand.job(pipeline, "build")
+    browser.open(at(pipeline, job))
+    assert browser.sees("[data-act=cancel]")
+    box = browser.find("[data-act=cancel]").rect
+    middle = {"x": box["x"] + box["width"] / 2, "y": box["y"] + box["height"] / 2, "button": "left"}
+    for count in (1, 2):
+        for kind in ("mousePressed", "mouseReleased"):
+            browser.command("Input.dispatchMouseEvent", type=kind, clickCount=count, **middle)
+        # By the second click another button stands there.
+        assert browser.sees("[data-act=retry]")
+    asks_again(browser)
+    assert stand.status(job) == "canceled"
+
+
+def test_an_act_that_takes_long_is_done_once(stand, browser):
+    pipeline = stand.pipeline(ONE)["id"]
+    job = stand.job(pipeline, "build")
+    stand.take()
+    browser.open(at(pipeline, job))
+    assert browser.sees("[data-act=cancel]")
+    browser.run("window.acts = 0; const was = window.fetch; window.fetch = async (url, more) => { if (more.method === 'POST') { window.acts += 1; await new Promise(go => { window.go = go; }); } return was(url, more); }")
+    browser.press("[data-act=cancel]")
+    asks_again(browser, 2)
+    assert browser.run("const it = document.querySelector('[data-act=cancel]'); it.click(); return it.disabled")
+    browser.run("window.go()")
+    assert browser.sees("h1 + .chip", "canceled") and browser.run("return window.acts") == 1
+
+
+def test_failed_jobs_are_tried_again_though_one_was_just_before(stand, browser):
+    pipeline = stand.pipeline("a:\n  script: x\nb:\n  script: x\nc:\n  script: x\n")["id"]
+    for _ in range(3):
+        stand.take().ends("failed", 1)
+    browser.open(at(pipeline))
+    assert browser.sees("[data-act=retry-failed]")
+    browser.run("let first = true; const was = window.fetch; window.fetch = async (url, more) => { if (first && more.method === 'POST') { first = false; await was(url, more); } return was(url, more); }")
+    browser.press("[data-act=retry-failed]")
+    assert browser.sees("#notes", "2 jobs are tried again")
+    assert [stand.status(stand.job(pipeline, name)) for name in "abc"] == ["pending"] * 3
+
+
+def test_focus_and_marks_stay_where_the_page_is_drawn_anew(stand, browser):
+    pipeline = stand.pipeline("a:\n  stage: build\n  script: x\nb:\n  stage: build\n  script: x\nc:\n  stage: test\n  script: x\n")["id"]
+    first, second = stand.job(pipeline, "a"), stand.job(pipeline, "b")
+    browser.open("#/waiting")
+    assert browser.sees(f"[data-job='{second}'] [data-act=cancel]")
+    browser.run(f"document.querySelector(\"[data-job='{second}'] [data-act=cancel]\").focus()")
+    stand.take()
+    assert browser.gone(f"[data-job='{first}']")
+    assert browser.run("return document.activeElement.dataset.id") == str(second)
+    browser.go(at(pipeline))
+    assert browser.sees(f"[data-box='{second}'] a")
+    browser.run(f"document.querySelector(\"[data-box='{second}'] a\").focus()")
+    marked = len(browser.all(".lines .marked"))
+    stand.take()
+    assert browser.sees(f".box.running[data-box='{second}']")
+    assert marked and len(browser.all(".lines .marked")) == marked
+
+
 def luminance(colour):
     parts = [part / 255 for part in colour]
     return sum(share * (part / 12.92 if part <= 0.04045 else ((part + 0.055) / 1.055) ** 2.4) for share, part in zip((0.2126, 0.7152, 0.0722), parts))
