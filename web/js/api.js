@@ -1,7 +1,8 @@
 // Requests to the server that the page came from, and to no other.
 import { heard } from "./times.js";
 
-const PLACE = "token";
+// Pages of several servers may stand side by side below one name: each has its own.
+const PLACE = `token ${new URL(".", location).pathname}`;
 const MOST_WAITING = 30_000;
 
 /** What the server refused, with its code. */
@@ -28,7 +29,15 @@ const WORDS = {
   H7: "The server doesn't take this.",
 };
 
+// Of what is asked of a pipeline: its ref and its variables.
+const OF_ORDER = {
+  K11: "A pipeline has a hundred variables at most.",
+  K12: "A variable's name has letters, digits and _ alone, begins with no digit, and stands once.",
+  K16: "A ref has 1 to 255 bytes, and no control characters.",
+};
+
 function words(code, status, detail) {
+  if (code === "M14" && OF_ORDER[detail]) return OF_ORDER[detail];
   if (code === "M14") return `Refused: ${detail}. “ciserver explain” tells more of the file.`;
   return WORDS[code] ?? `Refused: ${code ?? `status ${status}`}.`;
 }
@@ -46,7 +55,7 @@ export function projectOf(text) {
 async function refusal(reply) {
   let told = {};
   try {
-    told = await reply.json();
+    told = (await reply.json()) ?? {};
   } catch {
     // A proxy's own words.
   }
@@ -56,18 +65,33 @@ async function refusal(reply) {
   return new Refused(reply.status, told.code, told.detail);
 }
 
+/** The bytes of a reply; `comes()` is done with each part of them. */
+async function bytesOf(reply, comes) {
+  const parts = [], reader = reply.body?.getReader();
+  for (let part = await reader?.read(); part && !part.done; part = await reader.read()) {
+    comes();
+    parts.push(part.value);
+  }
+  return new Uint8Array(await new Blob(parts).arrayBuffer());
+}
+
 async function send(method, path, { body, from } = {}) {
   const headers = { "PRIVATE-TOKEN": token() };
   if (from) headers.Range = `bytes=${from}-`;
   const stop = new AbortController();
-  const timer = setTimeout(() => stop.abort(), MOST_WAITING);
+  let timer = null;
+  const wait = () => {
+    clearTimeout(timer);
+    timer = setTimeout(() => stop.abort(), MOST_WAITING);
+  };
+  wait();
   try {
     const url = `api/v4/projects/${projectOf(token())}${path}`;
     const reply = await fetch(url, { method, body, headers, signal: stop.signal, cache: "no-store", credentials: "same-origin", redirect: "error" });
     heard(reply.headers.get("Date"));
     if (from && reply.status === 416) return { reply, bytes: new Uint8Array(0) };
     if (!reply.ok) throw await refusal(reply);
-    return { reply, bytes: new Uint8Array(await reply.arrayBuffer()) };
+    return { reply, bytes: await bytesOf(reply, wait) };
   } catch (fault) {
     if (fault instanceof Refused || fault instanceof Unreachable) throw fault;
     throw new Unreachable(stop.signal.aborted ? "nothing came for half a minute" : "no connection");
@@ -91,6 +115,7 @@ export async function ask(method, path, value) {
 /** The bytes of a trace behind its first `from`: a part of it where the proxy gives one, else what follows in the whole. */
 export async function traceBehind(path, from) {
   const { reply, bytes } = await send("GET", path, { from });
+  if (bytes.length && !/^text\/plain\b/.test(reply.headers.get("Content-Type") ?? "")) throw new Unreachable("the answer isn't the server's");
   if (reply.status !== 206) return bytes.subarray(reply.status === 416 ? 0 : from);
   const begins = /^bytes (\d+)-/.exec(reply.headers.get("Content-Range") ?? "");
   return begins && Number(begins[1]) === from ? bytes : new Uint8Array(0);

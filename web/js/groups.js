@@ -2,11 +2,10 @@
 import { ask } from "./api.js";
 import { attempt } from "./buttons.js";
 import { el } from "./dom.js";
-import { jobAnywhere, jobsOf, known } from "./known.js";
+import { jobAnywhere, jobsOf, known, openPipelines } from "./known.js";
 import { name, toJob } from "./links.js";
 import { fresh } from "./polls.js";
 import { sign, words } from "./statuses.js";
-import { openPipelines } from "./waiting.js";
 
 const MODES = [
   ["unordered", "whichever job a runner asks for first"],
@@ -14,8 +13,8 @@ const MODES = [
   ["newest_ready_first", "the newest pipeline's job that is ready"],
 ];
 
-/** Whether a group's name can stand in a path. */
-const canBeAsked = (key) => key !== "" && !/[\s/?#%]/.test(key) && new TextEncoder().encode(key).length <= 255;
+/** Whether a group's name can stand in a path: the server decodes nothing, and a browser writes many a letter in another way. */
+const canBeAsked = (key) => key.length <= 255 && !key.includes("%") && new URL(`/to/${key}`, location).pathname === `/to/${key}`;
 
 /** The groups that the server tells, and those that jobs here have besides. */
 function groups() {
@@ -33,6 +32,7 @@ const jobLink = ({ pipeline, job }) => el("a", { href: toJob(pipeline, job.id) }
 /** The view of the resource groups. */
 export class Groups {
   title = "Resource groups";
+  setting = new Set();
 
   keys() {
     return ["groups", "pipelines", ...openPipelines().map((it) => `jobs/${it.id}`)];
@@ -53,7 +53,7 @@ export class Groups {
   }
 
   mode(group) {
-    if (!canBeAsked(group.key)) return el("span", { class: "soft", title: "A name with a blank, a slash or such can't be written in a path." }, words(group.process_mode));
+    if (!canBeAsked(group.key)) return el("span", { class: "soft", title: "A name with a blank, a slash, an accent or such can't be written in an address as it stands." }, words(group.process_mode));
     const at = `mode-${group.key}`;
     return el(
       "select",
@@ -77,18 +77,23 @@ export class Groups {
   /** Sets a group's process mode. */
   async changed(select) {
     const [key, mode] = [select.dataset.mode, select.value];
+    this.setting.add(key);
     await attempt(async () => {
       const group = await ask("PUT", `/resource_groups/${key}`, { process_mode: mode });
+      const listed = known.groups?.find((it) => it.key === key);
+      if (listed) listed.process_mode = group.process_mode;
+      else known.groups?.push({ holder: null, ...group });
       return `${group.key} is ${words(group.process_mode)} from now on.`;
     });
+    this.setting.delete(key);
     fresh();
   }
 
-  /** A select says what the server told last, but while somebody is at it. */
+  /** A select says what the server told last, but while it is being set. */
   drawn(place) {
     for (const select of place.querySelectorAll("select[data-mode]")) {
-      const group = known.groups?.find((it) => it.key === select.dataset.mode);
-      if (select !== document.activeElement) select.value = group?.process_mode ?? "unordered";
+      const key = select.dataset.mode, told = known.groups?.find((it) => it.key === key)?.process_mode ?? "unordered";
+      if (!this.setting.has(key) && select.value !== told) select.value = told;
     }
   }
 

@@ -42,7 +42,7 @@ export class JobView {
   /** The pane of the attempt that is shown. */
   paneOf(attempt) {
     if (this.pane?.attempt !== attempt.id) {
-      this.pane = new Pane(attempt.id, (line) => toLine(this.pipeline, this.id, attempt.id, line), this.line);
+      this.pane = new Pane(attempt.id, (line) => toLine(this.pipeline, this.id, attempt.id, line), this.line, () => { this.wanted = attempt.id; });
     }
     return this.pane;
   }
@@ -63,9 +63,14 @@ export class JobView {
   async askFor(key) {
     if (key !== "trace") return askFor(key);
     const attempt = this.attempt(), pane = this.paneOf(attempt);
-    const begun = Date.now(), heard = attempt.heard_at, ended = attempt.status !== "running";
-    pane.write(await traceBehind(`/jobs/${this.id}/attempts/${attempt.id}/trace`, pane.log.bytes));
-    Object.assign(pane, { asked: begun, heard, isWhole: ended, since: now() });
+    const begun = performance.now(), heard = attempt.heard_at, ended = attempt.status !== "running";
+    try {
+      pane.write(await traceBehind(`/jobs/${this.id}/attempts/${attempt.id}/trace`, pane.log.bytes), ended);
+      Object.assign(pane, { asked: begun, heard, isWhole: ended, since: now() });
+    } catch (fault) {
+      if (fault.code !== "M3") throw fault;
+      Object.assign(pane, { asked: begun, isWhole: true, isGone: true });
+    }
     return undefined;
   }
 
@@ -141,6 +146,7 @@ export class JobView {
   trace(job) {
     const attempt = this.attempt();
     if (!attempt && this.wanted) return el("p", { class: "empty", "data-key": "none" }, "The job has no such attempt.");
+    if (!attempt && !OPEN.has(job.status)) return el("p", { class: "empty", "data-key": "none" }, "No runner took the job.");
     if (!attempt) return el("p", { class: "empty", "data-key": "none" }, "No runner has taken the job yet. ", job.status === "manual" ? "It waits to be played." : el("a", { href: "#/waiting" }, "What waits, and why"));
     return this.paneOf(attempt).shown(attempt);
   }
@@ -148,6 +154,7 @@ export class JobView {
   nodes() {
     const job = this.job(), fault = faultOf(`jobs/${this.pipeline}`);
     if (!job) return [this.head(null), el("p", { class: "empty" }, fault || jobsOf(this.pipeline) ? "There is no such job. Its pipeline may have been pruned." : "Asking the server …")];
-    return [this.head(job), el("div", { class: "job-of", "data-key": "job" }, this.side(job), this.trace(job))];
+    const gone = fault ? el("p", { class: "empty" }, "The pipeline has been pruned since.") : null;
+    return [this.head(job), gone, el("div", { class: "job-of", "data-key": "job" }, this.side(job), this.trace(job))];
   }
 }

@@ -20,7 +20,8 @@ export function route() {
   const [path, query = ""] = location.hash.slice(1).split("?");
   for (const [name, form, parts] of ROUTES) {
     const found = form.exec(path);
-    if (found) {
+    // A number past the greatest would become another one.
+    if (found && found.slice(1).every((part) => Number.isSafeInteger(Number(part ?? 0)))) {
       const numbers = Object.fromEntries(parts.map((part, at) => [part, found[at + 1] ? Number(found[at + 1]) : null]));
       return { name, ...numbers, filter: Object.fromEntries(new URLSearchParams(query)) };
     }

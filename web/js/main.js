@@ -7,12 +7,11 @@ import { JobView } from "./job.js";
 import { askedAt, forgetAll, known } from "./known.js";
 import { route } from "./links.js";
 import { List } from "./list.js";
-import { note } from "./notes.js";
 import { markLines } from "./picture.js";
 import { PipelineView } from "./pipeline.js";
 import { begin, follow, stop } from "./polls.js";
 import { runDialog } from "./run.js";
-import { askForToken, head, state } from "./shell.js";
+import { askForToken, head, hush, state } from "./shell.js";
 import { Waiting } from "./waiting.js";
 
 const VIEWS = { pipelines: List, pipeline: PipelineView, job: JobView, waiting: Waiting, groups: Groups };
@@ -68,6 +67,7 @@ function go() {
 function ask(fault) {
   view = null;
   stop();
+  hush();
   forgetAll();
   dropToken();
   head(null, false);
@@ -77,8 +77,7 @@ function ask(fault) {
 }
 
 function refused(fault) {
-  if (fault.code === "M1" || fault.code === "M2" || fault.status === 401) ask(`${fault.message} Is it whole?`);
-  else note(fault.message, true);
+  ask(`${fault.message} Is it whole?`);
 }
 
 const PRESSED = {

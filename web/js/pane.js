@@ -5,15 +5,17 @@ import { now } from "./times.js";
 
 const NEAR = 40;
 
-const size = (bytes) => (bytes < 1024 ? `${bytes} bytes` : bytes < 1048576 ? `${(bytes / 1024).toFixed(1)} KiB` : `${(bytes / 1048576).toFixed(1)} MiB`);
+const counted = (count, word) => `${count} ${word}${count === 1 ? "" : "s"}`;
+const size = (bytes) => (bytes < 1024 ? counted(bytes, "byte") : bytes < 1048576 ? `${(bytes / 1024).toFixed(1)} KiB` : `${(bytes / 1048576).toFixed(1)} MiB`);
 
 function control(kind, text, more = {}) {
   return el("button", { type: "button", class: "button small-text", "data-pane": kind, ...more }, text);
 }
 
 export class Pane {
-  constructor(attempt, linkTo, line) {
-    Object.assign(this, { attempt, linkTo, line, asked: 0, heard: null, since: 0, isWhole: false, follows: !line, isRaw: false });
+  /** `linkTo(line)` is the address of a line; `stays()` is told where a line is gone to, so that this attempt stays the one that is shown. */
+  constructor(attempt, linkTo, line, stays) {
+    Object.assign(this, { attempt, linkTo, line, stays, isGone: false, asked: 0, heard: null, since: 0, isWhole: false, follows: !line, isRaw: false });
     this.log = new Log(linkTo);
     this.bar = el("div", { class: "bar" });
     this.words = el("span", { class: "soft" });
@@ -32,15 +34,18 @@ export class Pane {
     return attempt.heard_at !== this.heard || this.since < Date.parse(attempt.heard_at) + 2000;
   }
 
-  write(bytes) {
+  write(bytes, isLast) {
     this.log.write(bytes);
+    if (isLast) this.log.end();
     if (bytes.length && this.isRaw) this.rawText();
     if (this.line && this.log.lines >= this.line) this.goTo(this.line);
     else if (this.follows) this.toEnd();
   }
 
-  toEnd() {
+  /** Scrolls to the end; again in the next frames, for the same cause as `centre` does. */
+  toEnd(times = 3) {
     this.box.scrollTop = this.box.scrollHeight;
+    if (times > 0) requestAnimationFrame(() => this.follows && this.toEnd(times - 1));
   }
 
   scrolled() {
@@ -85,6 +90,7 @@ export class Pane {
     const next = event.key === "j" ? here + 1 : here - 1;
     if (next < 1 || next > this.log.lines) return;
     history.replaceState(null, "", this.linkTo(next));
+    this.stays();
     this.goTo(next);
   }
 
@@ -119,7 +125,8 @@ export class Pane {
 
   /** The pane's element, with what is told above the log. */
   shown(attempt) {
-    const told = !this.asked ? "asking for the trace …" : this.log.bytes ? `${this.log.lines + (this.log.tail ? 1 : 0)} lines, ${size(this.log.bytes)}` : "no trace";
+    const lines = counted(this.log.lines + (this.log.tail ? 1 : 0), "line");
+    const told = this.isGone ? "the trace has been pruned" : !this.asked ? "asking for the trace …" : this.log.bytes ? `${lines}, ${size(this.log.bytes)}` : "no trace";
     const silent = (now() - Date.parse(attempt.heard_at)) / 1000;
     const text = attempt.status === "running" ? `${told}, and it runs${silent > 30 ? `; its runner was last heard of ${Math.floor(silent)} s ago` : ""}` : told;
     this.follow.hidden = attempt.status !== "running";

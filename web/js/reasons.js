@@ -1,6 +1,6 @@
 // Why a job doesn't run, by what is known of pipelines, groups and runners.
 import { el } from "./dom.js";
-import { jobAnywhere, jobsOf, known } from "./known.js";
+import { jobAnywhere, jobsOf, known, openPipelines } from "./known.js";
 import { name, toJob } from "./links.js";
 import { words } from "./statuses.js";
 
@@ -12,7 +12,8 @@ function list(parts) {
 
 /** What each runner has shown that it takes: the tags of the jobs that it ran, and whether it ran one without tags. */
 function runnersSeen() {
-  const seen = new Map();
+  // The jobs of a pipeline that has ended may have been read before it did: nothing of it runs.
+  const seen = new Map(), open = new Set(openPipelines().map((it) => it.id));
   for (const [pipeline, jobs] of known.jobs) {
     for (const job of jobs) {
       for (const attempt of job.attempts) {
@@ -20,7 +21,7 @@ function runnersSeen() {
         const runner = seen.get(attempt.runner.id) ?? { ...attempt.runner, tags: new Set(), untagged: false, runs: [], heard: "" };
         job.tag_list.forEach((tag) => runner.tags.add(tag));
         if (!job.tag_list.length) runner.untagged = true;
-        if (attempt.status === "running") runner.runs.push({ pipeline, job });
+        if (attempt.status === "running" && open.has(pipeline)) runner.runs.push({ pipeline, job });
         if (attempt.heard_at > runner.heard) runner.heard = attempt.heard_at;
         seen.set(runner.id, runner);
       }
@@ -48,13 +49,13 @@ function pending(job) {
 }
 
 function groupFirst(job, pipeline, mode) {
-  const isFirst = mode === "oldest_first" ? (id) => id < pipeline : (id) => id > pipeline;
-  for (const [id, jobs] of known.jobs) {
-    if (!isFirst(id)) continue;
-    const other = jobs.find((it) => it.resource_group === job.resource_group && ["created", "pending", "waiting_for_resource"].includes(it.status));
+  const isOldest = mode === "oldest_first", goes = isOldest ? ["created", "pending", "waiting_for_resource"] : ["pending", "waiting_for_resource"];
+  const others = openPipelines().map((it) => it.id).filter((id) => (isOldest ? id < pipeline : id > pipeline)).sort((one, other) => (isOldest ? one - other : other - one));
+  for (const id of others) {
+    const other = jobsOf(id)?.find((it) => it.resource_group === job.resource_group && goes.includes(it.status));
     if (other) return jobLink(id, other);
   }
-  return mode === "oldest_first" ? "an older pipeline's job" : "a newer pipeline's job";
+  return isOldest ? "an older pipeline's job" : "a newer pipeline's job";
 }
 
 function resource(job, pipeline) {

@@ -30,7 +30,7 @@ function fields(ref, isTag) {
 
 async function sent(form, fault) {
   const rows = [...form.querySelectorAll(".variable")].map((row) => ({ key: row.querySelector("[name=key]").value, value: row.querySelector("[name=value]").value }));
-  const order = { ref: form.elements.ref.value, tag: form.elements.tag.checked, source: "web", variables: rows.filter((row) => row.key) };
+  const order = { ref: form.elements.ref.value, tag: form.elements.tag.checked, source: "web", variables: rows.filter((row) => row.key || row.value) };
   try {
     return await ask("POST", "/pipeline", order);
   } catch (refused) {

@@ -9,10 +9,17 @@ const PLACES = [["#/pipelines", "Pipelines", ["pipelines", "pipeline", "job"]], 
 
 /** The head: which project, which views there are, and the way out. */
 export function head(at, isIn) {
-  const brand = el("a", { class: "brand", href: "#/pipelines", "aria-label": "ciserver: pipelines" }, el("img", { src: "icon.svg", alt: "", width: 26, height: 26 }), el("span", {}, known.project ? name(known.project.name) : "ciserver"));
+  const brand = el("a", { class: "brand", href: "#/pipelines" }, el("img", { src: "icon.svg", alt: "", width: 26, height: 26 }), el("span", {}, known.project ? name(known.project.name) : "ciserver"));
   const nav = el("nav", { "aria-label": "Views" }, PLACES.map(([href, text, names]) => el("a", { href, "aria-current": names.includes(at) ? "page" : null }, text)));
   const out = el("button", { type: "button", class: "plain", "data-act": "out", title: "Forget the token" }, "Sign out");
   show(document.getElementById("head"), brand, isIn ? nav : null, isIn ? out : null);
+}
+
+/** Says nothing of the server any more. */
+export function hush() {
+  const place = document.getElementById("state");
+  delete place.dataset.lost;
+  place.replaceChildren();
 }
 
 /** Says that the server doesn't answer; with no moment, that it does again. */

@@ -1,7 +1,7 @@
 // What waits, and why: the jobs of all pipelines that haven't ended.
 import { jobButtons } from "./buttons.js";
 import { el } from "./dom.js";
-import { jobsOf, known } from "./known.js";
+import { jobsOf, known, openPipelines } from "./known.js";
 import { name, toJob, toPipeline } from "./links.js";
 import { origin } from "./list.js";
 import { reason } from "./reasons.js";
@@ -14,10 +14,8 @@ const KINDS = [
   ["created", "For other jobs"],
 ];
 
-export const openPipelines = () => (known.pipelines ?? []).filter((pipeline) => OPEN.has(pipeline.status));
-
-/** Behind them some that have ended, for what their runners have shown. */
-const endedToo = () => (known.pipelines ?? []).filter((pipeline) => !OPEN.has(pipeline.status) && !jobsOf(pipeline.id)).slice(0, 5);
+/** Behind them the five newest that have ended, for what their runners have shown. */
+const endedToo = () => (known.pipelines ?? []).filter((pipeline) => !OPEN.has(pipeline.status)).slice(0, 5).filter((pipeline) => !jobsOf(pipeline.id));
 
 /** The view of what waits. */
 export class Waiting {

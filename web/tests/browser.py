@@ -85,7 +85,7 @@ class Browser:
         self.driver.get(self.stand.url + "icon.svg")
         self.run("sessionStorage.clear()")
         if is_in:
-            self.run("sessionStorage.setItem('token', arguments[0])", self.stand.server.project)
+            self.run("sessionStorage.setItem('token /', arguments[0])", self.stand.server.project)
         self.driver.get(f"{self.stand.url}{where}")
         return self
 

@@ -104,7 +104,7 @@ def test_a_token_is_asked_for_and_kept_for_the_tab(stand, browser):
     browser.write("[name=token]", stand.server.project + ENTER)
     assert browser.sees("h1", "^pipelines$") and browser.sees(".brand", "hello")
     kept = browser.run("return [JSON.stringify(sessionStorage), localStorage.length, document.cookie]")
-    assert json.loads(kept[0]) == {"token": stand.server.project} and kept[1:] == [0, ""]
+    assert json.loads(kept[0]) == {"token /": stand.server.project} and kept[1:] == [0, ""]
     browser.driver.refresh()
     assert browser.sees("h1", "^pipelines$")
     browser.press("[data-act=out]")
@@ -471,6 +471,169 @@ def test_focus_and_marks_stay_where_the_page_is_drawn_anew(stand, browser):
     stand.take()
     assert browser.sees(f".box.running[data-box='{second}']")
     assert marked and len(browser.all(".lines .marked")) == marked
+
+
+def test_what_has_ended_runs_nowhere(stand, browser):
+    for n in range(8):
+        stand.pipeline(ONE, f"old-{n}")
+        stand.take().ends()
+    stand.pipeline(ONE, "running")
+    running = stand.take()
+    waits = stand.pipeline(ONE, "waiting")["id"]
+    browser.open("#/waiting")
+    reason = f"[data-job='{stand.job(waits, 'build')}'] .reason"
+    assert browser.sees(reason, "shell runs build #9")
+    running.ends()
+    assert browser.sees(reason, "shell would fit, and runs none of the jobs here")
+    # Of those that have ended the five newest are read, and no more.
+    asks_again(browser, 4)
+    read = browser.run("return [...new Set(performance.getEntriesByType('resource').map(it => (/pipelines\\/(\\d+)\\/jobs/.exec(it.name) ?? [])[1]).filter(Boolean))].map(Number).sort((a, b) => a - b)")
+    assert read == [4, 5, 6, 7, 8, 9, 10], read
+
+
+def test_which_job_goes_first_is_told(stand, browser):
+    ship = "  stage: deploy\n  resource_group: prod\n  script: x\n"
+    stand.user("PUT", "/resource_groups/prod", {"process_mode": "newest_ready_first"})
+    old = stand.pipeline(f"ship:\n{ship}", "a")["id"]
+    newer = stand.pipeline(f"first:\n{ship}", "b")["id"]
+    # It is newer still, but its job isn't ready.
+    stand.pipeline(f"make:\n  stage: build\n  script: x\nbehind:\n{ship}", "c")
+    browser.open("#/waiting")
+    assert browser.sees(f"[data-job='{stand.job(old, 'ship')}'] .reason", f"newest ready first: first #{stand.job(newer, 'first')} goes before it")
+
+
+def test_a_mode_is_set_of_the_group_that_is_meant(stand, browser):
+    stand.pipeline("a:\n  resource_group: pröd\n  script: x\nb:\n  resource_group: a<b\n  script: x\nc:\n  resource_group: c-1_2.3\n  script: x\n")
+    browser.open("#/groups")
+    assert browser.sees("[data-mode='c-1_2.3']")
+    assert [it.get_attribute("data-mode") for it in browser.all("select[data-mode]")] == ["c-1_2.3"]
+    assert until(lambda: [it.text for it in browser.all("[data-group] .number")] == ["a<b", "c-1_2.3", "pröd"])
+    change = "const it = document.querySelector('select[data-mode]'); it.focus(); it.value = arguments[0]; it.dispatchEvent(new Event('change', {bubbles: true}))"
+    browser.run(change, "oldest_first")
+    assert browser.sees("#notes", "c-1_2.3 is oldest first")
+    stand.server.lose()
+    browser.run(change, "newest_ready_first")
+    assert browser.sees(".note.fault", "not known whether it was done")
+    assert browser.run("return document.querySelector('select[data-mode]').value") == "oldest_first"
+
+
+def test_numbers_past_the_greatest_lead_to_the_list(stand, browser):
+    stand.pipeline(ONE)
+    for where in ("#/pipelines/9999999999999999", "#/pipelines/1/jobs/9007199254740993"):
+        browser.open(where)
+        assert browser.sees("h1", "^pipelines$") and browser.run("return location.hash") == "#/pipelines"
+        assert not browser.find(".note")
+
+
+def test_what_is_no_answer_of_the_server_is_told(stand, browser):
+    browser.open("#/pipelines")
+    assert browser.sees(".empty", "no pipeline yet")
+    browser.run("window.count = 0; window.real = window.fetch; window.fetch = async () => { window.count += 1; return new Response('<p>gone</p>', {status: 404}); }")
+    assert browser.sees("#state.lost", "status 404")
+    # Asked again after two seconds, four and eight.
+    until(lambda: False, 6.5)
+    assert browser.run("return window.count") <= 3 and not browser.find(".note")
+    browser.run("window.fetch = async () => new Response('{}')")
+    browser.go("#/groups")
+    assert browser.sees("#state.lost", "the answer isn't the server's")
+    browser.run("window.fetch = window.real")
+    browser.go("#/pipelines")
+    assert browser.sees("#state.found", "answers again")
+
+
+def test_a_clock_that_is_set_back_stops_nothing(stand, browser):
+    pipeline = stand.pipeline(ONE)["id"]
+    job, grant = stand.job(pipeline, "build"), stand.take()
+    grant.says("one\n")
+    browser.open(at(pipeline, job))
+    assert browser.sees("[data-line='1']")
+    browser.run("const was = Date.now; Date.now = () => was() - 3600e3")
+    asks_again(browser, 2)
+    grant.says("two\n")
+    assert browser.sees("[data-line='2'] .text", "^two$", 30)
+
+
+def test_signing_out_forgets_all(stand, browser):
+    browser.open("#/pipelines")
+    assert browser.sees(".empty", "no pipeline yet")
+    stand.server.lose()
+    assert browser.sees("#state.lost")
+    # Whoever signs out isn't told of a server that nobody asks; nor who is signed out.
+    browser.press("[data-act=out]")
+    assert browser.sees("form.card") and not browser.find("#state p")
+    stand.server.find()
+    browser.open("#/pipelines")
+    assert browser.sees(".empty", "no pipeline yet")
+    stand.server.lose()
+    assert browser.sees("#state.lost")
+    browser.run("sessionStorage.setItem('token /', 'p1-' + '0'.repeat(32))")
+    stand.server.find()
+    assert browser.sees(".card .fault", "no project has this token") and not browser.find("#state p")
+    # An answer that comes behind it is another's.
+    browser.open("#/nothing-yet", is_in=False)
+    assert browser.sees("form.card")
+    browser.run("window.real = window.fetch; window.fetch = async () => { await new Promise(go => { window.go = go; }); return new Response(JSON.stringify({id: 1, name: 'of another'})); }")
+    browser.write("[name=token]", stand.server.project + ENTER)
+    assert until(lambda: browser.run("return Boolean(window.go)"))
+    browser.press("[data-act=out]")
+    browser.run("window.fetch = window.real; window.go()")
+    browser.write("[name=token]", stand.server.project + ENTER)
+    assert browser.sees(".brand", "^hello$")
+    browser.run("sessionStorage.setItem('token /', 'p1-' + '0'.repeat(32)); window.go = null; window.fetch = async () => { await new Promise(go => { window.go = go; }); return new Response('{\"code\":\"M1\"}', {status: 401}); }")
+    assert until(lambda: browser.run("return Boolean(window.go)"))
+    browser.press("[data-act=out]")
+    # The token is another one by the time at which the first is refused.
+    browser.run("window.fetch = window.real; sessionStorage.setItem('token /', arguments[0]); location.hash = '#/groups'; setTimeout(window.go, 500)", stand.server.project)
+    assert browser.sees(".empty", "no group is held") and not browser.find("form.card")
+
+
+def test_a_pipeline_that_is_pruned_meanwhile_is_told_of(stand, browser):
+    pipeline = stand.pipeline(ONE)["id"]
+    job, first = stand.job(pipeline, "build"), stand.take()
+    first.says("one\n").ends("failed", 1)
+    stand.user("POST", f"/jobs/{job}/retry")
+    stand.take().says("two\n").ends()
+    browser.open(at(pipeline, job))
+    assert browser.sees("[data-line='1'] .text", "^two$")
+    stand.server.prune()
+    browser.press(f"[data-key='attempt-{first.id}'] a")
+    assert browser.sees(".bar .soft", "has been pruned") and browser.sees(".empty", "pruned since")
+    asks_again(browser)
+    assert not browser.find(".note")
+
+
+def test_what_ended_again_unseen_is_read_again(stand, browser):
+    pipeline = stand.pipeline("a:\n  stage: build\n  script: x\nb:\n  stage: test\n  script: x\n")["id"]
+    stand.take().ends("failed", 1)
+    browser.open("#/pipelines")
+    assert until(lambda: browser.find(".stages"))
+    label = "return document.querySelector('.stages a').getAttribute('aria-label')"
+    assert until(lambda: browser.run(label) == "build: a failed")
+    browser.run("Object.defineProperty(document, 'hidden', {configurable: true, value: true}); document.dispatchEvent(new Event('visibilitychange'))")
+    until(lambda: False, 1)
+    stand.user("POST", f"/jobs/{stand.job(pipeline, 'a')}/retry")
+    stand.take().ends()
+    stand.take().ends("failed", 1)
+    browser.run("delete document.hidden; document.dispatchEvent(new Event('visibilitychange'))")
+    assert until(lambda: browser.run(label) == "build: a success", 30)
+
+
+def test_a_fault_of_what_was_written_is_told_as_such(stand, browser):
+    stand.user("PUT", "/ci_file", ONE)
+    browser.open("#/pipelines")
+    browser.press("[data-act=run]")
+    for at_ in (1, 2):
+        browser.press("dialog form > .button")
+        browser.write(f".variable:nth-child({at_}) [name=key]", "TWICE")
+    browser.press("dialog [type=submit]")
+    assert browser.sees("dialog .fault", "a variable's name.*stands once")
+    browser.keys(ESCAPE)
+    assert browser.gone("dialog")
+    made = stand.pipeline(ONE)["id"]
+    job = stand.job(made, "build")
+    stand.user("POST", f"/jobs/{job}/cancel")
+    browser.go(at(made, job))
+    assert browser.sees(".empty", "^No runner took the job.$")
 
 
 def luminance(colour):

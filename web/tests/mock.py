@@ -184,9 +184,9 @@ class World:
             raise Refusal(400, "M13")
         if not isinstance(order.get("ref"), str) or not order["ref"]:
             raise Refusal(400, "H7")
-        for it in order.get("variables", []):
-            if not re.fullmatch(r"[A-Za-z_][A-Za-z0-9_]*", it["key"]):
-                raise Refusal(400, "M14", detail="K12")
+        keys = [it["key"] for it in order.get("variables", [])]
+        if len(set(keys)) < len(keys) or not all(re.fullmatch(r"[A-Za-z_][A-Za-z0-9_]*", key) for key in keys):
+            raise Refusal(400, "M14", detail="K12")
         stages, jobs = read_file(self.file)
         number = next(self.numbers["pipeline"])
         self.pipelines[number] = {"created_at": stamp(), "id": number, "ref": order["ref"], "source": order.get("source", "api"), "tag": order.get("tag", False)}

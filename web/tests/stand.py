@@ -46,6 +46,11 @@ class Mock:
     def find(self):
         self.server = mock.served(self.world, self.port)
 
+    def prune(self):
+        with self.world.lock:
+            self.world.pipelines.clear()
+            self.world.jobs.clear()
+
     end = lose
 
 
@@ -76,6 +81,11 @@ class Real:
         self.process.kill()
         self.process.wait()
         self.process.stdout.close()
+
+    def prune(self):
+        self.lose()
+        self.run("prune", "--before", "9999-12-31")
+        self.find()
 
     def end(self):
         self.lose()

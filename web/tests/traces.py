@@ -118,6 +118,18 @@ def test_what_is_said_to_a_terminal_alone_is_left_out(stand, browser):
     assert coloured == [["own", "", "rgb(10, 20, 30)"], ["red", "fg-1", ""], [" too", "fg-1", ""], ["start", "fg-1", ""], ["green", "fg-2", ""], ["red", "fg-1", ""]], coloured
 
 
+def test_the_last_line_is_shown_where_it_has_no_end(stand, browser):
+    pipeline = stand.pipeline(ONE)["id"]
+    job, grant = stand.job(pipeline, "build"), stand.take()
+    grant.says("section_start:1:a\r\x1b[0KHeader\nsection_end:5:a\r\x1b[0KJob succeeded").ends()
+    browser.open(at(pipeline, job))
+    assert browser.sees("[data-line='2'] .text", "^Job succeeded$") and browser.sees(".section .took", "^4 s$")
+    second = stand.pipeline(ONE, "other")["id"]
+    stand.take().says("x\n").ends()
+    browser.open(at(second, stand.job(second, "build")))
+    assert browser.sees(".bar .soft", "^1 line, 2 bytes$")
+
+
 def test_many_sections_and_many_lines(stand, browser):
     pipeline = stand.pipeline(ONE)["id"]
     job, grant = stand.job(pipeline, "build"), stand.take()
@@ -137,3 +149,72 @@ def test_many_sections_and_many_lines(stand, browser):
 
 END = "const it = document.querySelector('.log'); return Math.round(it.scrollHeight - it.scrollTop - it.clientHeight)"
 FIRST = "const top = document.querySelector('.log').getBoundingClientRect().top; return [...document.querySelectorAll('.line')].find(it => it.getBoundingClientRect().bottom > top + 1).dataset.line"
+
+
+def test_a_trace_keeps_its_place_and_is_followed_to_its_end(stand, browser):
+    piece = lambda first, last: "".join(f"line {n} {'w' * (300 if n % 2 else 10)}\n" for n in range(first, last + 1))
+    pipeline = stand.pipeline(ONE)["id"]
+    job, grant = stand.job(pipeline, "build"), stand.take()
+    grant.says(piece(1, 2000))
+    browser.open(at(pipeline, job))
+    assert browser.sees("[data-line='2000']") and until(lambda: browser.run(END) < 2)
+    box = browser.find(".log").rect
+    browser.command("Input.dispatchMouseEvent", type="mouseWheel", x=box["x"] + 300, y=box["y"] + 200, deltaX=0, deltaY=-6000)
+    assert browser.sees("[data-pane=follow][aria-pressed=false]")
+    until(lambda: False, 1)
+    before = browser.run(FIRST)
+    grant.says(piece(2001, 4000))
+    assert browser.sees("[data-line='4000']")
+    asks_again(browser)
+    assert browser.run(FIRST) == before
+    browser.press("[data-pane=follow]")
+    for n in (4001, 4002):
+        grant.says(piece(n, n))
+        assert browser.sees(f"[data-line='{n}']") and until(lambda: browser.run(END) < 2)
+        assert stays(lambda: browser.run(END) < 2, 1)
+
+
+def test_an_attempt_stays_where_one_goes_by_keys(stand, browser):
+    pipeline = stand.pipeline(ONE)["id"]
+    job, first = stand.job(pipeline, "build"), stand.take()
+    first.says("one\ntwo\n").ends("failed", 1)
+    browser.open(at(pipeline, job))
+    assert browser.sees("[data-line='2']")
+    browser.run("document.querySelector('.log').focus()")
+    browser.keys("j", "j")
+    assert browser.sees(".line.here .text", "^two$")
+    stand.user("POST", f"/jobs/{job}/retry")
+    stand.take().says("of the second\n")
+    assert browser.sees(".attempts li:nth-child(2)", "failed")
+    asks_again(browser, 2)
+    assert browser.sees(".line.here .text", "^two$")
+    assert browser.run("return location.hash") == f"#/pipelines/{pipeline}/jobs/{job}/attempts/{first.id}/lines/2"
+
+
+def test_an_answer_that_takes_long_is_waited_for_while_it_comes(stand, browser):
+    pipeline = stand.pipeline(ONE)["id"]
+    job, grant = stand.job(pipeline, "build"), stand.take()
+    grant.says("one\ntwo\n").ends()
+    browser.open("#/groups")
+    assert browser.sees("h1", "resource groups")
+    # Half a minute is one second here.
+    browser.run("const was = window.setTimeout; window.setTimeout = (does, wait) => was(does, wait === 30000 ? 1000 : wait);"
+                "const real = window.fetch; window.fetch = async (url, more) => { const reply = await real(url, more); if (!url.endsWith('/trace')) return reply;"
+                "const bytes = new Uint8Array(await reply.arrayBuffer()); let at = 0;"
+                "return new Response(new ReadableStream({async pull(to) { await new Promise(go => was(go, 500)); if (more.signal.aborted) return to.error(new Error('late'));"
+                "if (at === bytes.length) return to.close(); to.enqueue(bytes.slice(at, at + 1)); at += 1; }}), {headers: {'Content-Type': 'text/plain'}}); }")
+    browser.go(at(pipeline, job))
+    assert browser.sees("[data-line='2'] .text", "^two$") and not browser.find("#state.lost")
+
+
+def test_what_is_no_trace_of_the_server_is_not_shown_as_one(stand, browser):
+    pipeline = stand.pipeline(ONE)["id"]
+    job, grant = stand.job(pipeline, "build"), stand.take()
+    grant.says("one\n")
+    browser.open(at(pipeline, job))
+    assert browser.sees("[data-line='1'] .text", "^one$")
+    browser.run("window.real = window.fetch; window.fetch = async (url, more) => url.endsWith('/trace') ? new Response('<p>Sign on!</p>\\n', {headers: {'Content-Type': 'text/html'}}) : window.real(url, more)")
+    grant.says("two\n")
+    assert browser.sees("#state.lost", "the answer isn't the server's")
+    browser.run("window.fetch = window.real")
+    assert browser.sees("[data-line='2'] .text", "^two$") and not browser.find("[data-line='3']")
