@@ -21,8 +21,10 @@ import os
 import re
 import sqlite3
 import sys
+import unicodedata
 import urllib.parse
 from dataclasses import dataclass, field
+from itertools import accumulate
 
 FORMAT, VERSIONS = 1128878163, (1, 2)
 STATUSES = ("created", "pending", "running", "success", "failed", "canceled", "skipped", "manual")
@@ -243,8 +245,19 @@ def lasting(seconds: int) -> str:
     return f"{seconds // 3600} h {seconds % 3600 // 60} min"
 
 
+def columns(letter: str) -> int:
+    """How wide a letter is: some are twice as wide as most, and some stand on the one before."""
+    if unicodedata.combining(letter):
+        return 0
+    return 2 if unicodedata.east_asian_width(letter) in "WF" else 1
+
+
 def short(name: str, most: int = 21) -> str:
-    return name if len(name) <= most else name[: most - 1] + "…"
+    """As much of a name as a box has room for."""
+    ends = list(accumulate(map(columns, name)))
+    if not ends or ends[-1] <= most:
+        return name
+    return name[: sum(end < most for end in ends)] + "…"
 
 
 def chip(status: str) -> str:

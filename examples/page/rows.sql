@@ -35,7 +35,7 @@ INSERT INTO said VALUES
   (11, 24, 1, 'ship', 'deploy', 'false', '"oldest"', 'on_success', 0, 'x'),
   (12, 25, 0, 'ship', 'deploy', 'false', '"oldest"', 'on_success', 1, 'x'),
   (12, 26, 1, 'late', 'deploy', 'false', '"newest"', 'on_success', 1, 'x'),
-  (13, 27, 0, 'late', 'deploy', 'false', '"newest"', 'on_success', 1, 'x'),
+  (13, 27, 0, '名前の長い仕事がここにあります名前の長い仕事', 'deploy', 'false', '"newest"', 'on_success', 1, 'x'),
   (13, 28, 1, 'ship', 'deploy', 'false', '"oldest"', 'on_success', 1, 'x');
 INSERT INTO job SELECT id, pipeline, pos, name, stage, '{"allow_failure":' || allow || ',"interruptible":false,"needs":false,"resource_group":' || grp
   || ',"retry":{"causes":[],"max":0},"script":["' || script || '"],"tags":[],"timeout":3600,"when":"' || when_ || '"}', 0, id = 12, 0 FROM said;

@@ -90,6 +90,7 @@ passes 'groups with a mode' written 0 "$db" 4
 passes 'it is whole' reads
 passes 'its statuses' reported 13 12 11
 passes 'who waits' [ "$(grep waiting "$work/shown" | sort | paste -sd ,)" = 'job 25 waiting_for_resource,job 26 waiting_for_resource,job 28 waiting_for_resource' ]
+passes 'a name of wide letters fits its box' has 'class="name">名前の長い仕事がここ…</text>'
 
 passes 'no such project' written 1 "$db" 5
 passes 'no words' written 2
