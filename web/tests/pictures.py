@@ -6,6 +6,11 @@
 import os
 import sys
 
+from run import missing
+
+if lacking := missing():
+    sys.exit(f"for want of packages: apt-get install {' '.join(lacking)}")
+
 import mock
 from browser import Browser
 from stand import Stand, until
