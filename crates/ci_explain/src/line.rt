@@ -1,11 +1,21 @@
 //! The lines of a source on which the items of its lists begin.
 
-use ci_yaml::Tree;
+use ci_yaml::{Place, Tree};
+
+/// The line on which a text is written that begins or ends at a place. A literal block begins where the line behind its header does, and
+/// ends where the line behind its last one does.
+fn line_before(place: Place) -> usize {
+    if place.column == 0 {
+        place.line.saturating_sub(1)
+    } else {
+        place.line
+    }
+}
 
 /// The line on which the first text of a tree begins. None where it begins with none.
 fn first_line(tree: &Tree) -> Option<usize> {
     match tree {
-        Tree::Text(text) => Some(text.span.start.line),
+        Tree::Text(text) => Some(line_before(text.span.start)),
         Tree::List(items) => first_line(items.first()?),
         Tree::Map(pairs) => Some(pairs.first()?.0.span.start.line),
         _ => None,
@@ -15,7 +25,7 @@ fn first_line(tree: &Tree) -> Option<usize> {
 /// The line on which the last text of a tree ends. None where it ends with none.
 fn last_line(tree: &Tree) -> Option<usize> {
     match tree {
-        Tree::Text(text) => Some(text.span.end.line),
+        Tree::Text(text) => Some(line_before(text.span.end)),
         Tree::List(items) => last_line(items.last()?),
         Tree::Map(pairs) => {
             let pair = pairs.last()?;
@@ -28,10 +38,13 @@ fn last_line(tree: &Tree) -> Option<usize> {
     }
 }
 
-/// Does this line hold the beginning of a flow list?
+/// Does this line hold the beginning of a flow list, and not in a comment?
 fn begins_flow_list(lines: &[&str], line: usize) -> bool {
-    match lines.get(line.saturating_sub(1)) {
-        Some(text) => text.contains('['),
+    let Some(text) = lines.get(line.saturating_sub(1)) else {
+        return false;
+    };
+    match text.split_once('[') {
+        Some((before, _)) => !before.contains(" #"),
         None => false,
     }
 }
