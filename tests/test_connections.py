@@ -195,7 +195,6 @@ class Connections(Peers):
         server, silent = self.without_descriptors(8)
         waiting = self.sent(SHOW)
         time.sleep(1.5)
-        resource.prlimit(server, resource.RLIMIT_NOFILE, (100, 100))
         for peer in silent:
             peer.close()
         self.assertEqual(self.world.ended(), (0, '', ''))
