@@ -174,8 +174,8 @@ is 'it is whole' "$(sqlite3 /root/monday.db 'PRAGMA integrity_check' 'SELECT cou
 is 'a pipeline after it' "$(ask --data '{"ref":"main"}' "$api/projects/1/pipeline" | jq -c .id)" 3
 kill "$server" "$runner"
 wait "$server" "$runner" 2> /dev/null
-mkdir -m 700 /root/away && mv /var/lib/ciserver/ci.db* /root/away
-install -m 600 -o ciserver -g ciserver /root/monday.db $db
+away=$(mktemp -d /root/away.XXXXXX) && mv /var/lib/ciserver/ci.db* "$away" &&
+  install -m 600 -o ciserver -g ciserver /root/monday.db $db
 is 'that pipeline is no more' "$(as ciserver ciserver report --db $db --kind pipeline --pipeline 3)" 'refused: M3'
 as ciserver ciserver report --db $db --kind pipeline --pipeline 2
 passes 'a page' ciserver-page $db 1

@@ -1,8 +1,10 @@
 """examples/backup.sh: the file of a server is copied while it serves. Before each program by which the script reads something may happen: requests, a
 log that begins anew, a stop."""
 import os
+import re
 import select
 import shutil
+import signal
 import sqlite3
 import stat
 import subprocess
@@ -88,12 +90,20 @@ class Backup(Case):
         if before:
             self.make_steps(folder)
             variables['PATH'] = f'{folder}:{variables["PATH"]}'
-        process = subprocess.Popen([self.script, self.world.db, self.copy, *words], env=variables, stdout=subprocess.PIPE, stderr=subprocess.PIPE, text=True)
+        # A script that stops its own group stops nobody else.
+        self.process = subprocess.Popen([self.script, self.world.db, self.copy, *words], env=variables, stdout=subprocess.PIPE, stderr=subprocess.PIPE, text=True,
+                                        start_new_session=True)
+        self.addCleanup(self.kill_script)
         if before:
-            self.answer_steps(process, folder, before)
-        out, err = process.communicate(timeout=60)
+            self.answer_steps(self.process, folder, before)
+        out, err = self.process.communicate(timeout=60)
         self.assertEqual([name for name in os.listdir(self.world.folder) if name.startswith('copy.db') and name != 'copy.db'], [])
-        return process.returncode, out or err
+        return self.process.returncode, out or err
+
+    def kill_script(self):
+        if self.process.poll() is None:
+            os.killpg(self.process.pid, signal.SIGKILL)
+            self.process.wait()
 
     def make_steps(self, folder):
         os.makedirs(folder, exist_ok=True)
@@ -166,6 +176,24 @@ class Copies(Backup):
         self.told('append j1 1000 "x"', '202 running 0-1001')
         self.assertRegex(tell(self.world, 'create 1 other'), '^201 {"id":2,')
 
+    def test_back_from_a_copy_by_the_commands_of_the_pages(self):
+        self.assertEqual(self.run_script(), (0, 'tries: 1\n'))
+        wanted = self.in_copy()
+        for page in ('docs/OPERATING.md', 'packaging/debian/ciserver.README.Debian'):
+            with open(os.path.join(HERE, '..', page), encoding='utf-8') as file:
+                commands, = re.findall(r'(?s)systemctl stop ciserver\n( *away=.*?) *systemctl start', file.read())
+            for place, here in (('/var/lib/ciserver/ci.db', self.world.db), ('/root/monday.db', self.copy), ('/backup/monday.db', self.copy),
+                                ('/root/', f'{self.world.folder}/'), (' -o ciserver -g ciserver', '')):
+                commands = commands.replace(place, here)
+            for _ in range(2):
+                with self.subTest(page=page):
+                    self.set_variable(1)
+                    self.world.stop()
+                    self.assertTrue(self.header())
+                    subprocess.run(['bash', '-c', commands], check=True)
+                    self.assertFalse(os.path.exists(self.world.db + '-wal'))
+                    self.assertEqual(self.held(), wanted)
+
     def test_what_happens_meanwhile(self):
         self.copies(1, before=lambda *_: self.append())
         self.assertEqual(self.steps, STEPS)
@@ -213,16 +241,43 @@ class Copies(Backup):
         self.altered(['realpath "$1"'], [f'realpath {link}'])
         self.copies(1)
 
+    def state(self):
+        """Of the server's process: T where it stands still."""
+        with open(f'/proc/{self.world.server.pid}/stat', encoding='ascii') as file:
+            return file.read().split()[2]
+
     def test_a_server_that_stands_still(self):
-        def state():
-            with open(f'/proc/{self.world.server.pid}/stat', encoding='ascii') as file:
-                return file.read().split()[2]
         states = []
-        self.copies(1, str(self.world.server.pid), before=lambda *_: states.append(state()))
+        self.copies(1, str(self.world.server.pid), before=lambda *_: states.append(self.state()))
         self.assertEqual(states[1:], ['T'] * 3)
         self.append()
         self.refuses(1, 'store: O3', str(self.world.server.pid), CISERVER=self.false())
         self.append()
+
+    def test_a_signal_while_the_server_stands_still(self):
+        for name in ('HUP', 'INT', 'QUIT', 'PIPE', 'TERM'):
+            with self.subTest(name=name):
+                def ends(step, _):
+                    if step == 3:
+                        self.assertEqual(self.state(), 'T')
+                        self.process.send_signal(getattr(signal, f'SIG{name}'))
+                self.refuses(3, '', str(self.world.server.pid), before=ends)
+                self.append()
+
+    def test_the_process_of_a_unit_that_does_not_run(self):
+        self.world.stop()
+        self.copies(1, '0')
+
+    def test_a_line_that_cannot_be_written(self):
+        for told in ('/dev/full', '|'):
+            reader, writer = os.pipe()
+            os.close(reader)
+            output = writer if told == '|' else os.open(told, os.O_WRONLY)
+            done = subprocess.run([SCRIPT, self.world.db, self.copy], env=dict(os.environ, CISERVER=PROGRAM), stdout=output, stderr=subprocess.DEVNULL, check=False)
+            self.assertEqual(done.returncode, 0)
+            self.assertEqual(self.in_copy(), self.held())
+            self.assertEqual([name for name in os.listdir(self.world.folder) if name.startswith('copy.db')], ['copy.db'])
+            os.remove(self.copy)
 
     def false(self):
         """A program that refuses each file."""
@@ -328,9 +383,20 @@ class Refusals(Backup):
                 self.assertEqual(file.read(), 'kept')
             os.remove(name)
 
+    def test_a_name_that_is_taken_meanwhile_stays(self):
+        def take(step, _):
+            if step == 4:
+                with open(self.copy, 'w', encoding='ascii') as file:
+                    file.write('kept')
+        self.assertEqual(self.run_script(before=take), (3, f'backup.sh: {self.copy} is there\n'))
+        with open(self.copy, encoding='ascii') as file:
+            self.assertEqual(file.read(), 'kept')
+
     def test_words_and_files_that_are_none(self):
         self.refuses(2, 'FILE COPY [PID]', '1', '2')
+        for pid in ('-1', '00', 'ciserver'):
+            self.refuses(2, f'the number of a process, and not {pid}', pid)
         self.refuses(3, 'there is no nothing', CISERVER='nothing')
-        self.refuses(3, '', 'nobody')
+        self.refuses(3, 'No such process', '4194305')
         self.altered(['realpath "$1"'], ['realpath "$1.none"'])
         self.refuses(3, 'No such file')
