@@ -194,6 +194,23 @@ class Copies(Backup):
                     self.assertFalse(os.path.exists(self.world.db + '-wal'))
                     self.assertEqual(self.held(), wanted)
 
+    def test_what_is_pruned_by_the_commands_of_the_page_is_in_a_copy(self):
+        with open(os.path.join(HERE, '..', 'docs', 'OPERATING.md'), encoding='utf-8') as file:
+            commands = re.search(r'(?s)\n## Old pipelines\n.*?```sh\n(.*?)```', file.read())[1]
+        for place, here in (('bin/ciserver', PROGRAM), ('examples/backup.sh', SCRIPT), ('ci.db', self.world.db), ('before-2026.db', self.copy)):
+            self.assertIn(place, commands)
+            commands = commands.replace(place, here)
+        self.told('success j1', '200 success')
+        self.world.stop()
+        ran = lambda: subprocess.run(['bash', '-c', commands], capture_output=True, text=True, check=False)
+        self.assertEqual(ran().stdout, 'tries: 1\n{"pruned":1}\n')
+        self.assertEqual([row[0] for row in self.in_copy()[1]], [1])
+        for line in ('create 1 main', 'cancel-pipeline 1 2'):
+            self.assertTrue(is_accepted(tell(self.world, line)), line)
+        self.world.stop()
+        self.assertEqual((ran().stdout, [row[0] for row in self.held()[1]]), ('', [2]))
+        self.assertEqual([row[0] for row in self.in_copy()[1]], [1])
+
     def test_what_happens_meanwhile(self):
         self.copies(1, before=lambda *_: self.append())
         self.assertEqual(self.steps, STEPS)
