@@ -33,17 +33,18 @@ serve_file "$work/ci.db" 1000000
 direct=http://127.0.0.1:$port url=http://127.0.0.1:$port
 
 # nginx, by examples/nginx.conf with another port, name and certificate.
-if PATH=$PATH:/usr/sbin command -v nginx openssl > /dev/null; then
+if PATH=$PATH:/usr/sbin command -v nginx > /dev/null && command -v openssl > /dev/null; then
   openssl req -x509 -newkey rsa:2048 -nodes -days 1 -subj /CN=localhost -addext subjectAltName=IP:127.0.0.1 \
     -keyout "$work/ci.key" -out "$work/ci.pem" 2> /dev/null
   front=$((port + 1))
+  # Its paths are below the folder, whose own may have blanks.
   {
-    printf 'daemon off; pid %s/nginx.pid; error_log %s/nginx.log; events {} http { access_log off;\n' "$work" "$work"
-    for part in client_body proxy fastcgi uwsgi scgi; do printf '%s_temp_path %s/nginx-%s;\n' $part "$work" $part; done
-    sed "s|listen 443|listen 127.0.0.1:$front|; s|/etc/nginx/ci|$work/ci|; s|:8080|:$port|" "$here/nginx.conf"
+    echo 'daemon off; pid nginx.pid; events {} http { access_log off;'
+    for part in client_body proxy fastcgi uwsgi scgi; do echo "${part}_temp_path nginx-$part;"; done
+    sed "s|listen 443|listen 127.0.0.1:$front|; s|/etc/nginx/ci|ci|; s|:8080|:$port|" "$here/nginx.conf"
     echo '}'
   } > "$work/nginx.conf"
-  PATH=$PATH:/usr/sbin nginx -e "$work/nginx.log" -c "$work/nginx.conf" &
+  PATH=$PATH:/usr/sbin nginx -p "$work" -e nginx.log -c nginx.conf &
   processes+=($!)
   url=https://127.0.0.1:$front
   until curl -s --cacert "$work/ci.pem" "$url" > /dev/null; do kill -0 $!; sleep 0.1; done

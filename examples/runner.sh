@@ -12,8 +12,10 @@ umask 077
 # So long the runner holds a job on to what it last heard: a call takes a second more than it may, and a clock tells whole seconds.
 held=117
 once=; [[ ${1-} != --once ]] || { once=1; shift; }
-[[ $# -ge 1 && ${RUNNER_TOKEN-} ]] || { echo "usage: RUNNER_TOKEN=.. runner.sh [--once] URL [PROJECT]" >&2; exit 2; }
-api=$1/api/v4 project=$(realpath "${2-.}") work=$(mktemp -d) runner=$RUNNER_TOKEN id='' pid=''
+[[ $# =~ ^[12]$ && $1 != -* && ${RUNNER_TOKEN-} ]] || { echo "usage: RUNNER_TOKEN=.. runner.sh [--once] URL [PROJECT]" >&2; exit 2; }
+[[ -d ${2-.} ]] || { echo "there is no folder $2" >&2; exit 2; }
+api=$1/api/v4 project=$(realpath -- "${2-.}") runner=$RUNNER_TOKEN id='' pid=''
+work=$(mktemp -d) || exit 3
 unset RUNNER_TOKEN
 trap end_runner EXIT; trap 'exit 130' INT TERM
 
