@@ -24,7 +24,10 @@ if is_built; then llvm strip -o "$room/program" bin/ciserver; fi
 
 # filled FILE SIZE: the file with what is known by now.
 filled() {
-  sed "s|@VERSION@|$version|; s|@MAINTAINER@|$maintainer|; s|@SIZE@|$2|; s|@GLIBC@|$(told glibc dist/BUILT)|" "$1"
+  local text
+  text=$(< "$1")
+  text=${text//@VERSION@/"$version"} text=${text//@SIZE@/"$2"} text=${text//@GLIBC@/"$(told glibc dist/BUILT)"}
+  echo "${text//@MAINTAINER@/"$maintainer"}"
 }
 
 # package NAME PART: makes one package.

@@ -10,14 +10,17 @@ set -euo pipefail
 cd "$(dirname "$0")/.."
 part=${1-}
 prefix=${PREFIX:-/usr/local}
+prefix=${prefix%/}
 case $prefix in
   /usr | /usr/local) config=${SYSCONFDIR:-/etc} ;;
-  /*) config=${SYSCONFDIR:-$prefix/etc} ;;
-  *)
-    echo "PREFIX is a path from the root on, and not $prefix" >&2
+  /*[!a-zA-Z0-9/._+-]* | [!/]*)
+    echo "PREFIX is a path from the root on, of letters, digits and /._+- alone, and not $prefix" >&2
     exit 2
     ;;
+  *) config=${SYSCONFDIR:-$prefix/etc} ;;
 esac
+# What is laid is for all.
+umask 022
 root=${DESTDIR-}
 program=${PROGRAM:-bin/ciserver}
 bin=$prefix/bin share=$prefix/share units=$prefix/lib/systemd/system

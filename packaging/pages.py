@@ -28,9 +28,9 @@ FILES = [("/var/lib/ciserver/ci.db", "the server's file, where the unit for syst
          ("/etc/default/ciserver", "the port of the unit")]
 
 
-def help_of(*words: str) -> list[str]:
-    """What a program prints for --help, in lines that aren't broken."""
-    ran = subprocess.run([*words, "--help"], capture_output=True, text=True, check=True, env={**os.environ, "COLUMNS": "500"})
+def help_of(*words: str, program: str | None = None) -> list[str]:
+    """What a program prints for --help, in lines that aren't broken. It is called as the first word says, also where its file has another name."""
+    ran = subprocess.run([*words, "--help"], executable=program, capture_output=True, text=True, check=True, env={**os.environ, "COLUMNS": "500"})
     return ran.stdout.splitlines()
 
 
@@ -66,7 +66,8 @@ def head(name: str, section: int, version: str, what: str) -> list[str]:
 
 
 def seen_also(*names: str) -> list[str]:
-    where = "The documents and examples that are named here are in share/doc/ciserver, below the prefix of the installation: /usr, where a package brought them."
+    where = ("The documents and examples that are named here are in share/doc/ciserver, below the prefix of the installation: /usr, where a package brought them. "
+             "What isn't there is in the repository alone.")
     return [".SH SEE ALSO", ", ".join(f"\\fB{line(name)}\\fP({section})" for name, section in (pair.split(".") for pair in names)), ".PP", line(where)]
 
 
@@ -79,7 +80,7 @@ def read(path: str) -> str:
 
 
 def server_page(program: str, version: str) -> list[str]:
-    main = help_of(program)
+    main = help_of("ciserver", program=program)
     page = head("ciserver", 1, version, "a continuous integration server")
     page += [".SH SYNOPSIS", bold("ciserver") + " \\fICOMMAND\\fP [\\fIOPTIONS\\fP]", ".SH DESCRIPTION"]
     page += from_markdown(read("docs/OPERATING.md").split("\n## ")[0].split("\n", 1)[1])
@@ -87,7 +88,7 @@ def server_page(program: str, version: str) -> list[str]:
     for name, about in rows_of(main, "Commands:"):
         if name == "help":
             continue
-        lines = help_of(program, name)
+        lines = help_of("ciserver", name, program=program)
         page += [f".SS ciserver {line(name)}", line(about) + ".", ".PP", bold(usage_of(lines))]
         page += tagged(rows_of(lines, "Arguments:")) + tagged(rows_of(lines, "Options:"))
     sections = sections_of(read("docs/OPERATING.md"))

@@ -28,7 +28,8 @@ def marked(text: str) -> str:
             code = found["code"].strip() if found["ticks"] == "``" else found["code"]
             parts.append(bold(code.replace("\\|", "|")))
         elif found["strong"]:
-            parts.append("\\fB" + marked(found["strong"]).replace("\\fP", "\\fB").removeprefix("\\&") + "\\fP")
+            # \fP would lead back to the font of what is marked within.
+            parts.append("\\fB" + marked(found["strong"]).replace("\\fP", "\\fB").removeprefix("\\&") + "\\fR")
         elif found["weak"]:
             parts.append(f"\\fI{line(found['weak'])}\\fP")
         else:

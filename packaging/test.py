@@ -169,6 +169,26 @@ class Tree(unittest.TestCase):
                 if line.startswith((".", "'")):
                     self.assertIn(line[1:].split()[0], macros, line)
 
+    def test_what_is_behind_a_strong_word_is_not_strong(self):
+        strong = 0
+        for name in PAGES:
+            for line in self.page(name).splitlines():
+                fonts, before = ["R"], "R"
+                for font in re.findall(r"\\f(.)", line):
+                    font, before = (before if font == "P" else font), fonts[-1]
+                    fonts.append(font)
+                self.assertEqual(fonts[-1], "R", line)
+                strong += fonts.count("B")
+        self.assertGreater(strong, 1000)
+        self.assertIn("\\fBA plain \\fBcp\\fB isn\\(aqt safe\\fR, whichever of the two is copied first.", self.page("ciserver-backup.1"))
+
+    def test_a_program_of_another_name_is_called_ciserver_in_its_page(self):
+        other = f"{self.root}/other"
+        os.symlink(CISERVER, other)
+        self.lay("server", PROGRAM=other)
+        for name in set(commands_of(help_of(other))) - {"help"}:
+            self.assertIn(f"\nciserver {name} ", plain(self.page("ciserver.1")))
+
     def test_pages_name_programs_as_they_are_installed(self):
         for name in PAGES:
             self.assertIsNone(re.search(r"(?<![\w./])(bin/ciserver|examples/(convert|page)\.py|examples/backup\.sh|runner/ciserver-runner)", plain(self.page(name))), name)
@@ -279,7 +299,22 @@ class Tree(unittest.TestCase):
         text = self.read("/home/me/ci/lib/systemd/system/ciserver-runner.service")
         self.assertRegex(text, r"(?m)^ExecStart=/home/me/ci/share/ciserver-runner/ciserver-runner --config /home/me/ci/etc/ciserver-runner/config.toml$")
         self.assertIn("PORT=", self.read("/home/me/ci/etc/default/ciserver"))
-        self.assertEqual(subprocess.run([f"{HERE}/install.sh", "server"], env={**os.environ, "PREFIX": "here"}, stderr=subprocess.DEVNULL, check=False).returncode, 2)
+
+    def test_a_prefix_that_units_cannot_name_is_refused(self):
+        for prefix in ("here", "/home/my ci", "/home/a&b", "/home/a#b", "/home/100%"):
+            ran = subprocess.run([f"{HERE}/install.sh", "server"], env={**os.environ, "PREFIX": prefix, "DESTDIR": f"{self.root}/refused"}, capture_output=True, text=True, check=False)
+            self.assertEqual((ran.returncode, prefix in ran.stderr), (2, True), ran.stderr)
+        self.assertFalse(os.path.exists(f"{self.root}/refused"))
+
+    def test_a_prefix_with_a_slash_at_its_end_is_the_same(self):
+        self.lay("server", PREFIX="/usr/local/", DESTDIR=f"{self.root}/slash")
+        self.assertTrue(os.path.exists(f"{self.root}/slash/etc/default/ciserver"))
+        self.assertRegex(self.read("/slash/usr/local/lib/systemd/system/ciserver.service"), r"(?m)^ExecStart=/usr/local/bin/ciserver ")
+
+    def test_others_reach_what_is_laid_under_a_narrow_umask(self):
+        subprocess.run(["bash", "-c", 'umask 077; "$0" runner', f"{HERE}/install.sh"], check=True, env={**os.environ, "PREFIX": "/usr/local", "DESTDIR": f"{self.root}/narrow",
+                                                                                                    "PROGRAM": CISERVER, "SYSCONFDIR": ""})
+        self.assertEqual([at for at, _, _ in os.walk(f"{self.root}/narrow/usr/local") if os.stat(at).st_mode & 0o777 != 0o755], [])
 
 
 def main():
