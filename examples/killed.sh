@@ -9,6 +9,7 @@
 # answer that a runner got doesn't stand in the file, or where an attempt ended though neither its runner said so nor its lease was over.
 # It needs bash, curl, jq and sqlite3.
 set -eu
+for tool in curl jq sqlite3; do command -v "$tool" > /dev/null || { echo "there is no $tool" >&2; exit 3; }; done
 here=$(realpath "$(dirname "$0")")
 ciserver=$(realpath "${1-$here/../bin/ciserver}")
 times=${2-20} cut=${3-130}

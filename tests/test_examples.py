@@ -77,6 +77,15 @@ class Runner(Examples):
                   TMPDIR=os.path.join(self.room, 'none'))
 
 
+class Killed(Examples):
+    def test_a_tool_that_is_not_there_is_told_at_once(self):
+        tools = os.path.join(self.room, 'tools')
+        os.mkdir(tools)
+        for tool in ('curl', 'jq', 'sqlite3'):
+            self.ends(3, f'there is no {tool}\n', shutil.which('bash'), os.path.join(EXAMPLES, 'killed.sh'), '/none', PATH=tools)
+            os.symlink('/bin/true', os.path.join(tools, tool))
+
+
 @unittest.skipUnless(shutil.which('nginx', path=PATH) and shutil.which('openssl'), 'nginx or openssl is not there')
 class Sites(Examples):
     def setUp(self):
