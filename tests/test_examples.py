@@ -118,7 +118,7 @@ class Sites(Examples):
         with open(os.path.join(self.room, 'nginx.conf'), 'w', encoding='utf-8') as file:
             parts = ''.join(f'{part}_temp_path {part};' for part in ('client_body', 'proxy', 'fastcgi', 'uwsgi', 'scgi'))
             file.write(f'daemon off; pid pid; events {{}} http {{ access_log off; {parts}\n' + re.sub(r':808[123]\b', f':{self.port}', site) + '}\n')
-        subprocess.run(['openssl', 'req', '-x509', '-newkey', 'rsa:2048', '-nodes', '-days', '1', '-subj', '/CN=ci.example.com', '-keyout', 'ci.key', '-out', 'ci.pem'],
+        subprocess.run(['openssl', 'req', '-x509', '-newkey', 'ec', '-pkeyopt', 'ec_paramgen_curve:P-256', '-nodes', '-days', '1', '-subj', '/CN=ci.example.com', '-keyout', 'ci.key', '-out', 'ci.pem'],
                        cwd=self.room, stderr=subprocess.DEVNULL, check=True)
         self.begin(shutil.which('nginx', path=PATH), '-p', self.room, '-e', 'faults', '-c', 'nginx.conf')
         for path in ('/api/v4/projects/1/resource_groups/gr\u00f6\u00dfe', '/api/v4/projects/1/resource_groups/a%2fb', '/api/v4/projects/1/resource_groups/%41',
@@ -130,7 +130,7 @@ class Sites(Examples):
     @staticmethod
     def asked(port, host, path):
         """The path that the server behind nginx got."""
-        context = ssl.create_default_context()
+        context = ssl.SSLContext(ssl.PROTOCOL_TLS_CLIENT)
         context.check_hostname, context.verify_mode = False, ssl.CERT_NONE
         for _ in range(300):
             try:
