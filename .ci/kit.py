@@ -10,7 +10,10 @@ import tempfile
 
 
 def load():
-    loader = importlib.machinery.SourceFileLoader("rt_command", os.path.realpath(shutil.which("rt")))
+    command = shutil.which("rt")
+    if not command:
+        sys.exit("the toolchain is wanted, and there is no `rt` in PATH")
+    loader = importlib.machinery.SourceFileLoader("rt_command", os.path.realpath(command))
     module = importlib.util.module_from_spec(importlib.util.spec_from_loader("rt_command", loader))
     loader.exec_module(module)
     return module
