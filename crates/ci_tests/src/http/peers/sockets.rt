@@ -83,8 +83,8 @@ fn more_than_places(rt: HostRuntime) -> Result<(), Fail> {
 /// The most files that are opened to leave no descriptor.
 const MAX_FILES: usize = 2_000_000;
 
-/// Where descriptors are short a connection waits until the one before it is over. Each accept that fails meanwhile, ten times a
-/// second, counts for none.
+/// Where descriptors are short the loop goes on with the connection that it has. Two accepts that fail meanwhile, a tenth of a second
+/// apart, are the others of its number.
 #[test]
 fn no_descriptors(rt: HostRuntime) -> Result<(), Fail> {
     let mut listener = listen(&rt)?;
@@ -104,8 +104,9 @@ fn no_descriptors(rt: HostRuntime) -> Result<(), Fail> {
     let mut left: Left = 1;
     assert!(rt; served(&rt, &mut listener, 3, &mut left));
     drop(files);
-    assert!(rt; left == 0 && got(&rt, last)? == 100);
-    assert!(rt; got(&rt, silent)? == 0 && got(&rt, second)? == 0);
+    assert!(rt; left == 1 && got(&rt, silent)? == 0);
+    drop(second);
+    drop(last);
     Ok(())
 }
 
