@@ -156,8 +156,8 @@ class Converter:
         for key, value in self.defaults.items():
             if boolean(wanted) is not False and (not isinstance(wanted, List) or key in wanted):
                 job.put(key, value, self.defaults.places[key])
-        job.join(source.without(*[key for key, value in source.items() if is_null(value)]))
-        return job.without(*[key for key, value in job.items() if is_null(value)])
+        job.join(source.without_nulls())
+        return job.without_nulls()
 
     def parallel(self, name: str, job: Map) -> dict[str, dict[str, Text]]:
         """The names of a job's copies, each with the variables that it has besides."""

@@ -38,7 +38,7 @@ SOURCES = {
     "chat": "chat", "pipelines": "pipeline", "parent_pipelines": "parent_pipeline",
 }
 SOURCES |= {it.removesuffix("_event"): it for it in SOURCES.values()}  # GitLab takes the word for one as well
-SOURCES_ELSEWHERE = set(SOURCES.values()) - {"push", "web", "schedule", "api", "trigger"} | {"parent_pipeline", "ondemand_dast_scan"}
+SOURCES_ELSEWHERE = set(SOURCES.values()) - {"push", "web", "schedule", "api", "trigger"} | {"ondemand_dast_scan"}
 OF_RUNNER = re.compile(  # variables that GitLab's runner looks at
     r"GIT_(STRATEGY|DEPTH|CHECKOUT|CLEAN_FLAGS|CLONE_PATH|CLONE_EXTRA_FLAGS|FETCH_EXTRA_FLAGS|SUBMODULE_[A-Z_]+)|DOCKER_AUTH_CONFIG|CI_DEBUG_(TRACE|SERVICES)"
     r"|(GET_SOURCES|ARTIFACT_DOWNLOAD|RESTORE_CACHE|EXECUTOR_JOB_SECTION)_ATTEMPTS|RUNNER_(AFTER_)?SCRIPT_TIMEOUT|(FF|KUBERNETES)_[A-Z0-9_]+"

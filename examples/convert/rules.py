@@ -5,7 +5,7 @@ from .conditions import condition
 from .expressions import alternatives
 from .notes import Notes
 from .refs import Refs
-from .tree import Map, Refused, Text, boolean, flat, is_null, number
+from .tree import Map, Refused, Text, boolean, flat, number
 from .variables import Variables
 from .workflow import Workflow
 
@@ -54,7 +54,7 @@ class Rules:
         for rule in flat(given):
             if not isinstance(rule, Map):
                 raise Refused(rule.place, "a rule is no map")
-            rule = rule.without(*[key for key, value in rule.items() if is_null(value)])
+            rule = rule.without_nulls()
             parts = self.if_parts(rule, values)
             if parts is None:
                 continue

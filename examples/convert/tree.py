@@ -58,6 +58,10 @@ class Map(dict):
                 rest.put(key, value, self.places[key])
         return rest
 
+    def without_nulls(self) -> "Map":
+        """The map as GitLab has it: a key whose value is null isn't there."""
+        return self.without(*[key for key, value in self.items() if is_null(value)])
+
 
 def text(value: str, place: Place, plain: bool = False, raw: bool = False) -> Text:
     made = Text(value)

@@ -38,7 +38,7 @@ class Workflow:
         for rule in rules:
             if not isinstance(rule, Map):
                 raise Refused(rule.place, "a rule is no map")
-            rule = rule.without(*[key for key, value in rule.items() if is_null(value)])
+            rule = rule.without_nulls()
             for key in rule.without("if", "when", "variables", "changes", "exists"):
                 self.notes.add(rule.places[key], f"workflow: `{key}` is dropped")
             kept, said = condition(self.notes, "workflow", rule, self.globals)
